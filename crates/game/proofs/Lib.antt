@@ -1,0 +1,13 @@
+pub mod Search
+pub mod Count
+pub mod Rules
+pub mod Game
+pub mod Length
+pub mod Verdict
+pub mod Agree
+pub mod Transfer
+pub mod Objection
+pub mod Line
+pub mod Finish
+pub mod Lists
+pub mod Demands

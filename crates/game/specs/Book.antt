@@ -2,7 +2,8 @@
 -- makes one. What a book's statements are worth is left to Game and Label.
 use mathlib.Core.Bool.{Bool, true, false, not, _&&_, _||_}
 use mathlib.Core.List.{List}
-use Prim.Native.Nat.{ℕ, zero, suc, _<_}
+use mathlib.Core.Path.{_≡_}
+use Prim.Native.Nat.{ℕ, zero, suc, _≤_, _<_}
 use lib.Dec.{T, eqb}
 use lib.ListN.{length, getD}
 
@@ -49,3 +50,10 @@ bookOf marks objectors targets = record {
   unread = λ x. eqb (getD marks x 0) 1;
   objects = λ y x. any (length objectors) (λ k. eqb (getD objectors k 0) y && eqb (getD targets k 0) x);
 }
+
+-- What such lists have to be for that: equally long, marks 0 or 1, and places in the mark list.
+pub record InOrder (marks objectors targets : List ℕ) : Type 0 where
+  pub paired : length targets ≡ length objectors
+  pub marked : (x : ℕ) → x < length marks → getD marks x 0 ≤ 1
+  pub objector : (k : ℕ) → k < length objectors → getD objectors k 0 < length marks
+  pub target : (k : ℕ) → k < length objectors → getD targets k 0 < length marks

@@ -1,6 +1,7 @@
 // The meanings of the register stand in specs/, and what is proved of them in proofs/. The one piece of code at this
 // level is the kind of an objection.
-ghost use Rattle.game.specs.Objection.{Ends, OfKind};
+ghost use mathlib.Core.Path.{_≡_};
+ghost use Rattle.game.specs.Objection.{Ends, OfKind, kindNumber, kindLength};
 
 // The kind of an objection. A felling or delaying one holds its length.
 pub enum Kind {
@@ -44,5 +45,27 @@ pub fn kind_of(target: u8, objector: u8, length: u16) -> Kind
             _ => never(),
         },
         _ => never(),
+    }
+}
+
+pub fn kind_number(kind: Kind) -> u8
+    ensures { λ r. ⌜ r ≡ kindNumber kind ⌝ }
+{
+    match kind {
+        Kind::Idle => 0,
+        Kind::Felling(_) => 1,
+        Kind::Delaying(_) => 2,
+        Kind::Standoff => 3,
+    }
+}
+
+pub fn kind_length(kind: Kind) -> u16
+    ensures { λ r. ⌜ r ≡ kindLength kind ⌝ }
+{
+    match kind {
+        Kind::Idle => 65535,
+        Kind::Felling(length) => length,
+        Kind::Delaying(length) => length,
+        Kind::Standoff => 65535,
     }
 }

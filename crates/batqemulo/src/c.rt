@@ -1,0 +1,85 @@
+// What C calls, by the names of include/batqemulo.h. Each function only turns the answer of a call into two numbers.
+use crate::Answer;
+use crate::CAnswer;
+use crate::lists;
+ghost use mathlib.Core.Path.{_≡_};
+ghost use Rattle.batqemulo.specs.Answer.{inC, InC};
+ghost use Rattle.batqemulo.specs.Lists.{PairsLabels, PairsLengths, PairsKinds, MovesLabels, MovesLengths};
+
+fn in_c(answer: Answer) -> CAnswer
+    ensures { λ c. ⌜ c ≡ inC answer ⌝ }
+{
+    match answer {
+        Answer::Refused(refused) => CAnswer {
+            refusal: refusal::number(refused),
+            value: refusal::place(refused),
+        },
+        Answer::Given(value) => CAnswer { refusal: 0, value },
+    }
+}
+
+// Labels of pairs.
+#[no_mangle]
+pub extern "C" fn batqemulo_pairs_labels(
+    marks: &[u8],
+    objectors: &[u32],
+    targets: &[u32],
+    labels: &mut [u8],
+) -> CAnswer
+    ensures { λ c. ⌜ InC (λ a. PairsLabels (now (marks .entry)) (now (objectors .entry)) (now (targets .entry)) (now (labels .entry)) a (now (labels .exit))) c ⌝ }
+{
+    in_c(lists::pairs_labels(marks, objectors, targets, labels))
+}
+
+// Lengths of pairs.
+#[no_mangle]
+pub extern "C" fn batqemulo_pairs_lengths(
+    marks: &[u8],
+    objectors: &[u32],
+    targets: &[u32],
+    lengths: &mut [u16],
+) -> CAnswer
+    ensures { λ c. ⌜ InC (λ a. PairsLengths (now (marks .entry)) (now (objectors .entry)) (now (targets .entry)) (now (lengths .entry)) a (now (lengths .exit))) c ⌝ }
+{
+    in_c(lists::pairs_lengths(marks, objectors, targets, lengths))
+}
+
+// Kinds and lengths of the objections of pairs.
+#[no_mangle]
+pub extern "C" fn batqemulo_pairs_kinds(
+    marks: &[u8],
+    objectors: &[u32],
+    targets: &[u32],
+    kinds: &mut [u8],
+    lengths: &mut [u16],
+) -> CAnswer
+    ensures { λ c. ⌜ InC (λ a. PairsKinds (now (marks .entry)) (now (objectors .entry)) (now (targets .entry)) (now (kinds .entry), now (lengths .entry)) a (now (kinds .exit), now (lengths .exit))) c ⌝ }
+{
+    in_c(lists::pairs_kinds(marks, objectors, targets, kinds, lengths))
+}
+
+// Labels of moves.
+#[no_mangle]
+pub extern "C" fn batqemulo_moves_labels(
+    marks: &[u8],
+    from: &[u32],
+    to: &[u32],
+    labels: &mut [u8],
+) -> CAnswer
+    ensures { λ c. ⌜ InC (λ a. MovesLabels (now (marks .entry)) (now (from .entry)) (now (to .entry)) (now (labels .entry)) a (now (labels .exit))) c ⌝ }
+{
+    in_c(lists::moves_labels(marks, from, to, labels))
+}
+
+// Lengths of moves.
+#[no_mangle]
+pub extern "C" fn batqemulo_moves_lengths(
+    marks: &[u8],
+    from: &[u32],
+    to: &[u32],
+    lengths: &mut [u16],
+) -> CAnswer
+    ensures { λ c. ⌜ InC (λ a. MovesLengths (now (marks .entry)) (now (from .entry)) (now (to .entry)) (now (lengths .entry)) a (now (lengths .exit))) c ⌝ }
+{
+    in_c(lists::moves_lengths(marks, from, to, lengths))
+}

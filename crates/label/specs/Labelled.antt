@@ -1,0 +1,23 @@
+-- What the solver asks of the lists, and what it promises: labels and lengths that are the meaning's.
+use mathlib.Core.List.{List}
+use mathlib.Core.Path.{_≡_}
+use Prim.Native.Nat.{ℕ, _≤_}
+use lib.ListN.{length, getD}
+use Rattle.game.specs.Book.{Book, Listed, InOrder, bookOf}
+use Rattle.game.specs.Label.{Told}
+
+-- lists in order and within the limits of 01
+pub record Handed (marks objectors targets : List ℕ) : Type 0 where
+  pub few-marks : length marks ≤ 1024
+  pub few-pairs : length objectors ≤ 4096
+  pub order : InOrder marks objectors targets
+
+-- each listed statement has its own label and length
+pub record Labelled (B : Book) (labels lengths : List ℕ) : Type 0 where
+  pub told : (x : ℕ) → Listed B x → Told B x (getD labels x 0) (getD lengths x 0)
+
+-- What the solver leaves in two rooms that are long enough: the labels and lengths, and beyond them what was there.
+pub record Solved (marks objectors targets labels lengths labels′ lengths′ : List ℕ) : Type 0 where
+  pub labelled : Labelled (bookOf marks objectors targets) labels′ lengths′
+  pub labels-rest : (k : ℕ) → length marks ≤ k → getD labels′ k 0 ≡ getD labels k 0
+  pub lengths-rest : (k : ℕ) → length marks ≤ k → getD lengths′ k 0 ≡ getD lengths k 0

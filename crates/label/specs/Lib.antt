@@ -1,0 +1,3 @@
+pub mod Labelled
+pub mod State
+pub mod Queue

@@ -1,0 +1,52 @@
+-- `repeated` finds the first pair that stands earlier too. The invariant: none was passed.
+use Prim.Native.Nat.{ℕ, _≤_, _<_, _-_}
+use native.Mathlib.Omega.{arith}
+use lib.ListN.{length}
+use Rattle.pairs.specs.Refuses.{Repeat}
+use Rattle.pairs.proofs.Laws.{further, found-none, found-here}
+use borrow.Author.Needs.{needs}
+use Rattle.pairs.proofs.repeated.Statement.{statement}
+use Rattle.pairs.proofs.repeated.Tie as tie
+
+abbrev Inv-loop : tie.InvT-loop
+Inv-loop objectors targets k₀ k =
+    (k ≤ length objectors) × ((j : ℕ) → j < k → ¬ Repeat objectors targets j)
+
+abbrev μ-loop : tie.MeasureT-loop
+μ-loop objectors targets k₀ k =
+    length objectors - k
+
+loop-holds : tie.Need-loop-holds Inv-loop μ-loop
+loop-holds c = search needs
+
+earlier-requires : tie.Need-earlier-requires Inv-loop μ-loop
+earlier-requires c κs = search needs
+
+returns : tie.Need-returns Inv-loop μ-loop
+returns c = found-here _ _ _ (omega arith) (c .before .before .before .loop .inv .1) (omega arith, (c .before .earlier .result, c .if1 .taken, c .before .earlier .ensures .2 (c .if1 .taken)))
+
+add-k : tie.Need-add-k Inv-loop μ-loop
+add-k c = search needs
+
+loop-less : tie.Need-loop-less Inv-loop μ-loop
+loop-less c = search needs
+
+loop-again : tie.Need-loop-again Inv-loop μ-loop
+loop-again c = (search needs, further _ _ (c .before .before .before .loop .inv .1) (λ b. c .before .earlier .ensures .1 (b .1 .0) (omega (arith, b .1 .1)) (b .1 .2)))
+
+returns-2 : tie.Need-returns-2 Inv-loop μ-loop
+returns-2 c = found-none _ _ _ (c .before .loop .inv .1) (omega arith)
+
+pub repeated-spec : {M : Type 1} → statement M
+repeated-spec =
+    tie.close
+    (tie.spec
+    Inv-loop
+    μ-loop
+    loop-holds
+    earlier-requires
+    returns
+    add-k
+    loop-less
+    loop-again
+    returns-2)

@@ -1,0 +1,114 @@
+// Lists handed over by another program, in whatever state they are: accepted, or refused with 01's number and the first
+// entry at fault. Labels, and the room for the answer, are left to others.
+use refusal::Refusal;
+ghost use mathlib.Core.Path.{_≡_};
+ghost use Prim.Native.Nat.{_<_};
+ghost use lib.ListN.{length};
+ghost use Rattle.pairs.specs.Refuses.{BadMark, BadPlace, Repeat, Same, Checks, Found};
+
+pub enum Checked {
+    Accepted,
+    Refused(Refusal),
+}
+
+fn place(x: u32) -> usize
+    ensures { λ r. ⌜ r ≡ x ⌝ }
+{
+    x as usize
+}
+
+// The first mark other than 0 or 1, or the number of marks.
+pub fn bad_mark(marks: &[u8]) -> usize
+    ensures { λ r. ⌜ Found (BadMark (now (marks .entry))) (length (now (marks .entry))) r ⌝ }
+{
+    let mut k = 0;
+    while k < marks.len() {
+        if marks[k] > 1 {
+            return k;
+        }
+        k += 1;
+    }
+    k
+}
+
+// The first pair with a place outside the mark list, or the number of pairs.
+pub fn bad_place(marks: &[u8], objectors: &[u32], targets: &[u32]) -> usize
+    requires { ⌜ length (now targets) ≡ length (now objectors) ⌝ }
+    ensures { λ r. ⌜ Found (BadPlace (now (marks .entry)) (now (objectors .entry)) (now (targets .entry))) (length (now (objectors .entry))) r ⌝ }
+{
+    let mut k = 0;
+    while k < objectors.len() {
+        if place(objectors[k]) >= marks.len() {
+            return k;
+        }
+        if place(targets[k]) >= marks.len() {
+            return k;
+        }
+        k += 1;
+    }
+    k
+}
+
+// Where the pair at k stands earlier, or k.
+fn earlier(objectors: &[u32], targets: &[u32], k: usize) -> usize
+    requires { ⌜ (length (now targets) ≡ length (now objectors)) × (k < length (now objectors)) ⌝ }
+    ensures { λ r. ⌜ Found (Same (now (objectors .entry)) (now (targets .entry)) k) k r ⌝ }
+{
+    let y = objectors[k];
+    let x = targets[k];
+    let mut j = 0;
+    while j < k {
+        if objectors[j] != y {
+            j += 1;
+            continue;
+        }
+        if targets[j] != x {
+            j += 1;
+            continue;
+        }
+        return j;
+    }
+    j
+}
+
+// The first pair that stands earlier too, or the number of pairs.
+fn repeated(objectors: &[u32], targets: &[u32]) -> usize
+    requires { ⌜ length (now targets) ≡ length (now objectors) ⌝ }
+    ensures { λ r. ⌜ Found (Repeat (now (objectors .entry)) (now (targets .entry))) (length (now (objectors .entry))) r ⌝ }
+{
+    let mut k = 0;
+    while k < objectors.len() {
+        if earlier(objectors, targets, k) < k {
+            return k;
+        }
+        k += 1;
+    }
+    k
+}
+
+pub fn check(marks: &[u8], objectors: &[u32], targets: &[u32]) -> Checked
+    ensures { λ r. ⌜ Checks (now (marks .entry)) (now (objectors .entry)) (now (targets .entry)) r ⌝ }
+{
+    if objectors.len() != targets.len() {
+        return Checked::Refused(Refusal::Unequal);
+    }
+    if marks.len() > 1024 {
+        return Checked::Refused(Refusal::Statements(0));
+    }
+    if objectors.len() > 4096 {
+        return Checked::Refused(Refusal::Objections(0));
+    }
+    let mark = bad_mark(marks);
+    if mark < marks.len() {
+        return Checked::Refused(Refusal::Mark(mark as u32));
+    }
+    let pair = bad_place(marks, objectors, targets);
+    if pair < objectors.len() {
+        return Checked::Refused(Refusal::Place(pair as u32));
+    }
+    let again = repeated(objectors, targets);
+    if again < objectors.len() {
+        return Checked::Refused(Refusal::Repeated(again as u32));
+    }
+    Checked::Accepted
+}

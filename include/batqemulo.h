@@ -1,0 +1,144 @@
+/*
+ * Batqemulo: which statements of a register stand, fall or are open, and how many turns of argument
+ * that takes. This is the whole interface for C and C++. Link libbatqemulo.a.
+ *
+ * What holds for every call:
+ *
+ * - Any input is either accepted or refused. There is nothing to check before a call.
+ * - A refusal leaves every room as found. An accepted call writes its answer at the start of each
+ *   room and leaves what lies beyond the answer as found.
+ * - A length beside a pointer counts entries, not bytes. A pointer may be NULL where its length
+ *   is 0.
+ * - No room may overlap another room or an input. Inputs are only read.
+ * - A call takes less than 24 KiB of stack. It allocates nothing, keeps nothing from one call to
+ * the next and calls nothing back, so calls may run in several threads at once.
+ */
+#ifndef BATQEMULO_H
+#define BATQEMULO_H
+
+#include <stddef.h>
+#include <stdint.h>
+
+#ifdef __cplusplus
+extern "C" {
+#endif
+
+/* The largest register that is accepted. */
+#define BATQEMULO_MAX_STATEMENTS 1024
+#define BATQEMULO_MAX_OBJECTIONS 4096
+#define BATQEMULO_MAX_TEXT_BYTES 65535
+
+/* The length of what has none: of an open statement, of an idle objection and of a standoff. Every
+ * other length is at most BATQEMULO_MAX_STATEMENTS. */
+#define BATQEMULO_NO_LENGTH 65535
+
+/* What every call answers. */
+typedef struct {
+    /* BATQEMULO_ACCEPTED, or the number of the refusal */
+    uint32_t refusal;
+    /* accepted: how many entries were written; refused: the place of the fault, which is 0 where
+     * the table of refusals names none */
+    uint32_t value;
+} batqemulo_answer;
+
+/* The refusals, and what their place is. A line is counted from 1, an entry of a list from 0. */
+enum batqemulo_refusal {
+    BATQEMULO_ACCEPTED = 0,
+    BATQEMULO_TEXT_TOO_LONG = 1,       /* over BATQEMULO_MAX_TEXT_BYTES */
+    BATQEMULO_TEXT_NOT_ENDED = 2,      /* not empty, and its last byte is not 10 */
+    BATQEMULO_LINE_SPOILED = 3,        /* the line */
+    BATQEMULO_STATEMENT_LATE = 4,      /* the line: a statement after an objection */
+    BATQEMULO_NUMBER_ISSUED = 5,       /* the line: a statement's number that is already issued */
+    BATQEMULO_TOO_MANY_STATEMENTS = 6, /* the line, for a text: over BATQEMULO_MAX_STATEMENTS */
+    BATQEMULO_NUMBER_UNKNOWN = 7,      /* the line: an objector or target not on the register */
+    BATQEMULO_OBJECTION_REPEATED = 8,  /* the line or entry of the later of the two */
+    BATQEMULO_TOO_MANY_OBJECTIONS = 9, /* the line, for a text: over BATQEMULO_MAX_OBJECTIONS */
+    BATQEMULO_ROOM_TOO_SHORT = 10,     /* a room is shorter than the answer */
+    BATQEMULO_LISTS_UNEQUAL = 11,      /* the two lists of places differ in length */
+    BATQEMULO_MARK_UNKNOWN = 12,       /* the entry: a mark other than 0 and 1 */
+    BATQEMULO_PLACE_OUTSIDE = 13,      /* the entry: a place not below the number of marks */
+    BATQEMULO_ASKED_UNKNOWN = 14,      /* the asked statement is not on the register */
+    BATQEMULO_TOO_MANY_TURNS = 15      /* more than 6 turns asked */
+};
+
+/* The marks that a caller hands over. Of an unread statement not every objection is known yet. */
+enum batqemulo_mark { BATQEMULO_READ = 0, BATQEMULO_UNREAD = 1 };
+
+/* The label of a statement. */
+enum batqemulo_label { BATQEMULO_OPEN = 0, BATQEMULO_STANDS = 1, BATQEMULO_FALLS = 2 };
+
+/* The kind of an objection. */
+enum batqemulo_kind {
+    BATQEMULO_IDLE = 0,     /* changes nothing */
+    BATQEMULO_FELLING = 1,  /* a standing statement against one that falls by it */
+    BATQEMULO_DELAYING = 2, /* a falling statement against one that stands */
+    BATQEMULO_STANDOFF = 3  /* an open statement against an open one */
+};
+
+/*
+ * Registers handed over as lists of pairs.
+ *
+ * marks[x] is the mark of the statement at place x. Pair i says that the statement at place
+ * objectors[i] objects to the one at place targets[i]. A statement may object to itself, and two
+ * may object to each other. No pair may come twice.
+ *
+ * Each call tests the whole of the lists for these faults, in this order, and reports the first:
+ *
+ *   11  objectors_len and targets_len differ; nothing else is looked at
+ *    6  marks_len is over BATQEMULO_MAX_STATEMENTS
+ *    9  there are more than BATQEMULO_MAX_OBJECTIONS pairs
+ *   12  place: the first mark that is neither 0 nor 1
+ *   13  place: the first pair of which either place is not below marks_len
+ *    8  place: the first pair that stands earlier in the lists too
+ *   10  a room is shorter than the answer
+ */
+
+/* Writes the label of each statement, in the order of the marks: marks_len entries.
+ * Refusals: 11, 6, 9, 12, 13, 8, 10. */
+batqemulo_answer batqemulo_pairs_labels(const uint8_t *marks, size_t marks_len,
+                                        const uint32_t *objectors, size_t objectors_len,
+                                        const uint32_t *targets, size_t targets_len,
+                                        uint8_t *labels, size_t labels_len);
+
+/* Writes the length of each statement, in the order of the marks: marks_len entries. It is the
+ * least number of turns that suffices for the winner; an open statement has BATQEMULO_NO_LENGTH.
+ * Refusals: 11, 6, 9, 12, 13, 8, 10. */
+batqemulo_answer batqemulo_pairs_lengths(const uint8_t *marks, size_t marks_len,
+                                         const uint32_t *objectors, size_t objectors_len,
+                                         const uint32_t *targets, size_t targets_len,
+                                         uint16_t *lengths, size_t lengths_len);
+
+/* Writes the kind and the length of each objection, in the order of the pairs: as many entries as
+ * there are pairs, in each of the two rooms. The length of a felling or delaying objection is 1
+ * plus its objector's length; an idle one and a standoff have BATQEMULO_NO_LENGTH.
+ * Refusals: 11, 6, 9, 12, 13, 8, and 10 if either room is too short. */
+batqemulo_answer batqemulo_pairs_kinds(const uint8_t *marks, size_t marks_len,
+                                       const uint32_t *objectors, size_t objectors_len,
+                                       const uint32_t *targets, size_t targets_len, uint8_t *kinds,
+                                       size_t kinds_len, uint16_t *lengths, size_t lengths_len);
+
+/*
+ * Registers handed over as moves of the game.
+ *
+ * An objection of y against x is a move from x to y. So move i goes from the target from[i] to the
+ * objector to[i], and each call answers what the call of the same name for pairs answers to
+ * objectors = to and targets = from: the same entries, and the same refusals and places.
+ */
+
+/* Writes the label of each statement, in the order of the marks: marks_len entries.
+ * Refusals: 11, 6, 9, 12, 13, 8, 10. */
+batqemulo_answer batqemulo_moves_labels(const uint8_t *marks, size_t marks_len,
+                                        const uint32_t *from, size_t from_len, const uint32_t *to,
+                                        size_t to_len, uint8_t *labels, size_t labels_len);
+
+/* Writes the length of each statement, or BATQEMULO_NO_LENGTH, in the order of the marks: marks_len
+ * entries. Refusals: 11, 6, 9, 12, 13, 8, 10. */
+batqemulo_answer batqemulo_moves_lengths(const uint8_t *marks, size_t marks_len,
+                                         const uint32_t *from, size_t from_len, const uint32_t *to,
+                                         size_t to_len, uint16_t *lengths, size_t lengths_len);
+
+#ifdef __cplusplus
+}
+#endif
+
+#endif

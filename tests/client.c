@@ -1,0 +1,170 @@
+/* A program as a customer would write it: it includes the header, hands two small registers over by
+ * every call and looks at what comes back. The rooms are taken from the heap at just the length
+ * that is needed, so that valgrind sees any step outside them. */
+#include "batqemulo.h"
+
+#include <stdio.h>
+#include <stdlib.h>
+#include <string.h>
+
+#define NO BATQEMULO_NO_LENGTH
+
+/* Most statements and most pairs of the registers below. */
+enum { MOST = 4 };
+
+/* A register with its answers. */
+struct example {
+    const char *name;
+    size_t statements;
+    uint8_t marks[MOST];
+    uint8_t labels[MOST];
+    uint16_t lengths[MOST];
+    size_t pairs;
+    uint32_t objectors[MOST];
+    uint32_t targets[MOST];
+    uint8_t kinds[MOST];
+    uint16_t kind_lengths[MOST];
+};
+
+/* The game a, b, c, d, which are the places 0 to 3. */
+static const struct example game = {
+    "the game a, b, c, d",
+    4,
+    {BATQEMULO_READ, BATQEMULO_READ, BATQEMULO_READ, BATQEMULO_READ},
+    {BATQEMULO_OPEN, BATQEMULO_OPEN, BATQEMULO_FALLS, BATQEMULO_STANDS},
+    {NO, NO, 1, 0},
+    4,
+    {1, 0, 2, 3},
+    {0, 1, 1, 2},
+    {BATQEMULO_STANDOFF, BATQEMULO_STANDOFF, BATQEMULO_IDLE, BATQEMULO_FELLING},
+    {NO, NO, NO, 1},
+};
+
+/* 4 against 3, 3 against 2, 2 against 1, and 1 is unread; they are the places 0 to 3 in this order.
+ */
+static const struct example chain = {
+    "the chain 4, 3, 2, 1",
+    4,
+    {BATQEMULO_READ, BATQEMULO_READ, BATQEMULO_READ, BATQEMULO_UNREAD},
+    {BATQEMULO_STANDS, BATQEMULO_FALLS, BATQEMULO_STANDS, BATQEMULO_FALLS},
+    {0, 1, 2, 3},
+    3,
+    {0, 1, 2},
+    {1, 2, 3},
+    {BATQEMULO_FELLING, BATQEMULO_DELAYING, BATQEMULO_FELLING},
+    {1, 2, 3},
+};
+
+static unsigned passed, failed;
+
+static void check(const struct example *e, const char *what, int good) {
+    if (good) {
+        passed++;
+        return;
+    }
+    failed++;
+    printf("FAILED %s: %s\n", e->name, what);
+}
+
+static void *room(size_t size) {
+    void *room = malloc(size);
+    if (room == NULL) {
+        puts("no memory");
+        exit(2);
+    }
+    return room;
+}
+
+static int accepted(batqemulo_answer answer, size_t entries) {
+    return answer.refusal == BATQEMULO_ACCEPTED && answer.value == entries;
+}
+
+static int refused(batqemulo_answer answer, uint32_t number, uint32_t place) {
+    return answer.refusal == number && answer.value == place;
+}
+
+static void ask_labels(const struct example *e) {
+    uint8_t *labels = room(e->statements);
+    batqemulo_answer answer =
+        batqemulo_pairs_labels(e->marks, e->statements, e->objectors, e->pairs, e->targets,
+                               e->pairs, labels, e->statements);
+    check(e, "labels of pairs",
+          accepted(answer, e->statements) && memcmp(labels, e->labels, e->statements) == 0);
+    memset(labels, 9, e->statements);
+    answer = batqemulo_moves_labels(e->marks, e->statements, e->targets, e->pairs, e->objectors,
+                                    e->pairs, labels, e->statements);
+    check(e, "labels of moves",
+          accepted(answer, e->statements) && memcmp(labels, e->labels, e->statements) == 0);
+    free(labels);
+}
+
+static void ask_lengths(const struct example *e) {
+    size_t size = e->statements * sizeof(uint16_t);
+    uint16_t *lengths = room(size);
+    batqemulo_answer answer =
+        batqemulo_pairs_lengths(e->marks, e->statements, e->objectors, e->pairs, e->targets,
+                                e->pairs, lengths, e->statements);
+    check(e, "lengths of pairs",
+          accepted(answer, e->statements) && memcmp(lengths, e->lengths, size) == 0);
+    memset(lengths, 9, size);
+    answer = batqemulo_moves_lengths(e->marks, e->statements, e->targets, e->pairs, e->objectors,
+                                     e->pairs, lengths, e->statements);
+    check(e, "lengths of moves",
+          accepted(answer, e->statements) && memcmp(lengths, e->lengths, size) == 0);
+    free(lengths);
+}
+
+static void ask_kinds(const struct example *e) {
+    size_t size = e->pairs * sizeof(uint16_t);
+    uint8_t *kinds = room(e->pairs);
+    uint16_t *lengths = room(size);
+    batqemulo_answer answer =
+        batqemulo_pairs_kinds(e->marks, e->statements, e->objectors, e->pairs, e->targets, e->pairs,
+                              kinds, e->pairs, lengths, e->pairs);
+    check(e, "kinds of pairs",
+          accepted(answer, e->pairs) && memcmp(kinds, e->kinds, e->pairs) == 0 &&
+              memcmp(lengths, e->kind_lengths, size) == 0);
+    free(lengths);
+    free(kinds);
+}
+
+/* A refusal gives its number and place, and the room stays as it was. */
+static void be_refused(const struct example *e) {
+    uint8_t labels[MOST] = {7, 7, 7, 7};
+    const uint8_t as_found[MOST] = {7, 7, 7, 7};
+    batqemulo_answer answer = batqemulo_pairs_labels(
+        e->marks, e->statements, e->objectors, e->pairs, e->targets, e->pairs - 1, labels, MOST);
+    check(e, "unequal lists", refused(answer, BATQEMULO_LISTS_UNEQUAL, 0));
+    answer = batqemulo_pairs_labels(e->marks, e->statements - 1, e->objectors, e->pairs, e->targets,
+                                    e->pairs, labels, MOST);
+    check(e, "a place outside", refused(answer, BATQEMULO_PLACE_OUTSIDE, (uint32_t)e->pairs - 1));
+    answer = batqemulo_pairs_labels(e->marks, e->statements, e->objectors, e->pairs, e->targets,
+                                    e->pairs, labels, e->statements - 1);
+    check(e, "a short room", refused(answer, BATQEMULO_ROOM_TOO_SHORT, 0));
+    answer = batqemulo_pairs_labels(e->marks, e->statements, e->objectors, e->pairs, e->targets,
+                                    e->pairs, NULL, 0);
+    check(e, "no room", refused(answer, BATQEMULO_ROOM_TOO_SHORT, 0));
+    check(e, "the room after refusals", memcmp(labels, as_found, sizeof labels) == 0);
+}
+
+/* Where every length is 0, every pointer may be NULL. */
+static void ask_of_nothing(void) {
+    static const struct example nothing = {.name = "the empty register"};
+    check(&nothing, "labels",
+          accepted(batqemulo_pairs_labels(NULL, 0, NULL, 0, NULL, 0, NULL, 0), 0));
+    check(&nothing, "kinds",
+          accepted(batqemulo_pairs_kinds(NULL, 0, NULL, 0, NULL, 0, NULL, 0, NULL, 0), 0));
+}
+
+int main(void) {
+    const struct example *examples[] = {&game, &chain};
+    for (size_t i = 0; i < sizeof examples / sizeof examples[0]; i++) {
+        ask_labels(examples[i]);
+        ask_lengths(examples[i]);
+        ask_kinds(examples[i]);
+        be_refused(examples[i]);
+    }
+    ask_of_nothing();
+    printf("%u passed, %u failed\n", passed, failed);
+    return failed == 0 ? 0 : 1;
+}

@@ -1,0 +1,9 @@
+//! The second solver: what the library ought to answer, worked out again from document 01 by other
+//! means. It shares no code with the library, and knows nothing of how the library is called.
+
+pub mod expected;
+pub mod game;
+pub mod kinds;
+pub mod refusals;
+pub mod rounds;
+pub mod verdict;

@@ -1,0 +1,47 @@
+//! The tests by name. A suite is a file that makes some of them; each test stops at the first
+//! difference and shows the input.
+
+mod examples;
+mod limits;
+mod meaning;
+mod order;
+mod refusals;
+mod rooms;
+mod shapes;
+mod small;
+
+use crate::library::session::Session;
+
+/// What a test does. It fails with the input and what was wrong with the answer.
+type Run = Box<dyn Fn(&mut Session) -> Result<(), String>>;
+
+pub struct Test {
+    pub name: String,
+    pub run: Run,
+}
+
+impl Test {
+    fn new(
+        name: impl Into<String>,
+        run: impl Fn(&mut Session) -> Result<(), String> + 'static,
+    ) -> Self {
+        Test {
+            name: name.into(),
+            run: Box::new(run),
+        }
+    }
+}
+
+pub fn all() -> Vec<Test> {
+    let suites = [
+        meaning::tests(),
+        examples::tests(),
+        small::tests(),
+        shapes::tests(),
+        limits::tests(),
+        rooms::tests(),
+        refusals::tests(),
+        order::tests(),
+    ];
+    suites.into_iter().flatten().collect()
+}

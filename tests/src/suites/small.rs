@@ -1,0 +1,41 @@
+//! Every register of up to three statements, through every call, with rooms of many lengths; and
+//! once more with the pairs in another order.
+
+use super::Test;
+use crate::inputs::lists::Lists;
+use crate::inputs::{rooms, small};
+use crate::library::call::{ListCall, LIST_CALLS};
+use crate::library::session::Session;
+use crate::random::Random;
+use crate::second::expected::Expected;
+
+pub fn tests() -> Vec<Test> {
+    let test = |call: &'static ListCall| {
+        let name = format!("every register up to 3 statements: {}", call.name);
+        Test::new(name, move |session| hold_all(session, call))
+    };
+    LIST_CALLS.iter().map(test).collect()
+}
+
+fn hold_all(session: &mut Session, call: &ListCall) -> Result<(), String> {
+    let mut random = Random::for_test("the order of the pairs");
+    for statements in 0..=3 {
+        for number in 0..small::count(statements) {
+            let lists = small::register(statements, number);
+            let expected = Expected::of(&lists);
+            for rooms in rooms::around(call, &lists) {
+                session.hold(call, &lists, &expected, &rooms)?;
+            }
+            let lists = reordered(&lists, &mut random);
+            let rooms = rooms::exact(call, &lists);
+            session.hold(call, &lists, &Expected::of(&lists), &rooms)?;
+        }
+    }
+    Ok(())
+}
+
+fn reordered(lists: &Lists, random: &mut Random) -> Lists {
+    let mut pairs: Vec<(u32, u32)> = lists.pairs().collect();
+    random.shuffle(&mut pairs);
+    Lists::new(lists.marks.clone(), &pairs)
+}

@@ -10,8 +10,9 @@
  * - A length beside a pointer counts entries, not bytes. A pointer may be NULL where its length
  *   is 0.
  * - No room may overlap another room or an input. Inputs are only read.
- * - A call takes less than 24 KiB of stack. It allocates nothing, keeps nothing from one call to
- * the next and calls nothing back, so calls may run in several threads at once.
+ * - A call on lists takes less than 24 KiB of stack, a call on a text less than 64 KiB. No call
+ *   allocates, keeps anything from one call to the next or calls back, so calls may run in several
+ *   threads at once.
  */
 #ifndef BATQEMULO_H
 #define BATQEMULO_H
@@ -74,6 +75,50 @@ enum batqemulo_kind {
     BATQEMULO_DELAYING = 2, /* a falling statement against one that stands */
     BATQEMULO_STANDOFF = 3  /* an open statement against an open one */
 };
+
+/*
+ * Registers handed over as text.
+ *
+ * A text is lines, each ended by byte 10. The fields of a line are parted by one tab, byte 9:
+ *
+ *   S  number    mark       a statement; its mark is R (read) or U (unread)
+ *   O  objector  target     an objection of one statement against another, by their numbers
+ *
+ * A number is 1 to 8 decimal digits, the first not 0. No number is issued twice. All statement
+ * lines come before all objection lines. A statement may object to itself, and two may object to
+ * each other. No objection may come twice. There are no blank lines and no spaces. The empty text
+ * is a register of no statements.
+ *
+ * Each call tests the text for these faults, in this order, and reports the first:
+ *
+ *    1  text_len is over BATQEMULO_MAX_TEXT_BYTES
+ *    2  the text is not empty, and its last byte is not 10
+ *
+ * then those of one line after the other; the place is the line, counted from 1:
+ *
+ *    3  the line is spoiled: it is neither a statement line nor an objection line
+ *    4  it is a statement line, and an objection line comes before it
+ *    6  it is a statement line, and BATQEMULO_MAX_STATEMENTS of them come before it
+ *    5  it is a statement line, and one before it has the same number
+ *    9  it is an objection line, and BATQEMULO_MAX_OBJECTIONS of them come before it
+ *    7  it is an objection line, and its objector or its target is on no statement line before it
+ *    8  it is an objection line, and one before it has the same objector and target
+ *
+ * and at last:
+ *
+ *   10  the room is shorter than the answer
+ */
+
+/* Writes the label of each statement, in the order of the statement lines: one entry for each.
+ * Refusals: 1, 2, then 3 to 9 line by line, then 10. */
+batqemulo_answer batqemulo_text_labels(const uint8_t *text, size_t text_len, uint8_t *labels,
+                                       size_t labels_len);
+
+/* Writes the length of each statement, in the order of the statement lines: one entry for each. An
+ * open statement has BATQEMULO_NO_LENGTH.
+ * Refusals: 1, 2, then 3 to 9 line by line, then 10. */
+batqemulo_answer batqemulo_text_lengths(const uint8_t *text, size_t text_len, uint16_t *lengths,
+                                        size_t lengths_len);
 
 /*
  * Registers handed over as lists of pairs.

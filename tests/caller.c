@@ -14,6 +14,9 @@
 /* The most arrays that a call takes, and the bytes that one may have with its guards. */
 enum { ARRAYS = 5, SPACE = 1 << 20 };
 
+/* The numbers of the calls on lists are below this one, those of the calls on a text are not. */
+enum { ON_TEXT = 20 };
+
 /* What a request says of an array. The guards are entries in front of it and behind it. */
 struct shape {
     uint32_t width;
@@ -68,8 +71,8 @@ static void take_array(struct array *array) {
     read_all(array->start, array->size);
 }
 
-/* The numbers are those of src/library/call.rs. */
-static batqemulo_answer make_call(uint32_t call, const struct array *a) {
+/* The numbers of the calls, here and below, are those of src/library/call.rs. */
+static batqemulo_answer call_on_lists(uint32_t call, const struct array *a) {
     switch (call) {
     case 0:
         return batqemulo_pairs_labels(a[0].lent, a[0].len, a[1].lent, a[1].len, a[2].lent, a[2].len,
@@ -87,7 +90,18 @@ static batqemulo_answer make_call(uint32_t call, const struct array *a) {
         return batqemulo_moves_lengths(a[0].lent, a[0].len, a[1].lent, a[1].len, a[2].lent,
                                        a[2].len, a[3].lent, a[3].len);
     }
-    stop("a call that is not there");
+    stop("a call on lists that is not there");
+    return (batqemulo_answer){0, 0};
+}
+
+static batqemulo_answer call_on_text(uint32_t call, const struct array *a) {
+    switch (call) {
+    case 20:
+        return batqemulo_text_labels(a[0].lent, a[0].len, a[1].lent, a[1].len);
+    case 21:
+        return batqemulo_text_lengths(a[0].lent, a[0].len, a[1].lent, a[1].len);
+    }
+    stop("a call on a text that is not there");
     return (batqemulo_answer){0, 0};
 }
 
@@ -104,7 +118,8 @@ int main(void) {
             stop("too many arrays");
         for (size_t i = 0; i < request.arrays; i++)
             take_array(&arrays[i]);
-        batqemulo_answer answer = make_call(request.call, arrays);
+        batqemulo_answer answer = request.call < ON_TEXT ? call_on_lists(request.call, arrays)
+                                                         : call_on_text(request.call, arrays);
         write_all(&answer, sizeof answer);
         for (size_t i = 0; i < request.arrays; i++)
             write_all(arrays[i].start, arrays[i].size);

@@ -24,9 +24,10 @@ struct example {
     uint32_t targets[MOST];
     uint8_t kinds[MOST];
     uint16_t kind_lengths[MOST];
+    const char *text;
 };
 
-/* The game a, b, c, d, which are the places 0 to 3. */
+/* The game a, b, c, d, which are the places 0 to 3 and the numbers 101 to 104. */
 static const struct example game = {
     "the game a, b, c, d",
     4,
@@ -38,6 +39,8 @@ static const struct example game = {
     {0, 1, 1, 2},
     {BATQEMULO_STANDOFF, BATQEMULO_STANDOFF, BATQEMULO_IDLE, BATQEMULO_FELLING},
     {NO, NO, NO, 1},
+    "S\t101\tR\nS\t102\tR\nS\t103\tR\nS\t104\tR\n"
+    "O\t102\t101\nO\t101\t102\nO\t103\t102\nO\t104\t103\n",
 };
 
 /* 4 against 3, 3 against 2, 2 against 1, and 1 is unread; they are the places 0 to 3 in this order.
@@ -53,6 +56,7 @@ static const struct example chain = {
     {1, 2, 3},
     {BATQEMULO_FELLING, BATQEMULO_DELAYING, BATQEMULO_FELLING},
     {1, 2, 3},
+    "S\t4\tR\nS\t3\tR\nS\t2\tR\nS\t1\tU\nO\t4\t3\nO\t3\t2\nO\t2\t1\n",
 };
 
 static unsigned passed, failed;
@@ -128,6 +132,24 @@ static void ask_kinds(const struct example *e) {
     free(kinds);
 }
 
+/* The same register as a text, in a room of its own like the others and without a zero behind. */
+static void ask_text(const struct example *e) {
+    size_t bytes = strlen(e->text), size = e->statements * sizeof(uint16_t);
+    uint8_t *text = room(bytes), *labels = room(e->statements);
+    uint16_t *lengths = room(size);
+    memcpy(text, e->text, bytes);
+    batqemulo_answer answer = batqemulo_text_labels(text, bytes, labels, e->statements);
+    check(e, "labels of a text",
+          accepted(answer, e->statements) && memcmp(labels, e->labels, e->statements) == 0);
+    answer = batqemulo_text_lengths(text, bytes, lengths, e->statements);
+    check(e, "lengths of a text",
+          accepted(answer, e->statements) && memcmp(lengths, e->lengths, size) == 0);
+    check(e, "the text afterwards", memcmp(text, e->text, bytes) == 0);
+    free(lengths);
+    free(labels);
+    free(text);
+}
+
 /* A refusal gives its number and place, and the room stays as it was. */
 static void be_refused(const struct example *e) {
     uint8_t labels[MOST] = {7, 7, 7, 7};
@@ -147,6 +169,23 @@ static void be_refused(const struct example *e) {
     check(e, "the room after refusals", memcmp(labels, as_found, sizeof labels) == 0);
 }
 
+/* A text that breaks off in a line, one that has lost its first byte, and one without room. */
+static void have_text_refused(const struct example *e) {
+    uint8_t labels[MOST] = {7, 7, 7, 7};
+    const uint8_t as_found[MOST] = {7, 7, 7, 7};
+    const uint8_t *text = (const uint8_t *)e->text;
+    size_t bytes = strlen(e->text);
+    batqemulo_answer answer = batqemulo_text_labels(text, bytes - 1, labels, MOST);
+    check(e, "a text that is not ended", refused(answer, BATQEMULO_TEXT_NOT_ENDED, 0));
+    answer = batqemulo_text_labels(text + 1, bytes - 1, labels, MOST);
+    check(e, "a spoiled line", refused(answer, BATQEMULO_LINE_SPOILED, 1));
+    answer = batqemulo_text_labels(text, bytes, labels, e->statements - 1);
+    check(e, "a short room for a text", refused(answer, BATQEMULO_ROOM_TOO_SHORT, 0));
+    answer = batqemulo_text_lengths(text, bytes, NULL, 0);
+    check(e, "no room for a text", refused(answer, BATQEMULO_ROOM_TOO_SHORT, 0));
+    check(e, "the room after refused texts", memcmp(labels, as_found, sizeof labels) == 0);
+}
+
 /* Where every length is 0, every pointer may be NULL. */
 static void ask_of_nothing(void) {
     static const struct example nothing = {.name = "the empty register"};
@@ -154,6 +193,9 @@ static void ask_of_nothing(void) {
           accepted(batqemulo_pairs_labels(NULL, 0, NULL, 0, NULL, 0, NULL, 0), 0));
     check(&nothing, "kinds",
           accepted(batqemulo_pairs_kinds(NULL, 0, NULL, 0, NULL, 0, NULL, 0, NULL, 0), 0));
+    check(&nothing, "labels of a text", accepted(batqemulo_text_labels(NULL, 0, NULL, 0), 0));
+    check(&nothing, "lengths of a text",
+          accepted(batqemulo_text_lengths((const uint8_t *)"", 0, NULL, 0), 0));
 }
 
 int main(void) {
@@ -162,7 +204,9 @@ int main(void) {
         ask_labels(examples[i]);
         ask_lengths(examples[i]);
         ask_kinds(examples[i]);
+        ask_text(examples[i]);
         be_refused(examples[i]);
+        have_text_refused(examples[i]);
     }
     ask_of_nothing();
     printf("%u passed, %u failed\n", passed, failed);

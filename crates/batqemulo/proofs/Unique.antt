@@ -1,21 +1,25 @@
 -- Every promise leaves one answer and one content of the rooms: `unique-CALL` for each public call.
 use mathlib.Core.List.{List}
-use mathlib.Core.Logic.{_⊎_, inl, inr}
-use mathlib.Core.Path.{_≡_, sym, _∙_, ap}
+use mathlib.Core.Logic.{inl, inr}
+use mathlib.Core.Path.{_≡_, sym, _∙_, ap, subst}
 use Prim.Native.Nat.{ℕ, _<_}
 use native.Mathlib.Omega.{arith}
 use lib.ListN.{length, getD}
 use Rattle.game.specs.Book.{Book, bookOf}
-use Rattle.game.specs.Label.{Verdict, Means, labelNumber, lengthNumber}
-use Rattle.game.specs.Objection.{OfKind, kindNumber, kindLength}
+use Rattle.game.specs.Label.{Verdict, Means}
+use Rattle.game.specs.Objection.{OfKind}
 use Rattle.game.specs.declared.Kind.{Kind}
 use Rattle.game.proofs.Verdict.{means-unique}
 use Rattle.game.proofs.Objection.{kind-unique}
 use Rattle.pairs.specs.Refuses.{Lists}
 use Rattle.pairs.proofs.Laws.{refuses-once, not-both}
+use Rattle.text.specs.Register.{Register, book}
+use Rattle.text.specs.Reads.{Accepts}
+use Rattle.text.proofs.Unique as text
 use Rattle.refusal.specs.declared.Refusal.{Refusal}
 use Rattle.batqemulo.specs.Answer.{Promised, Begins, inC, InC}
 use Rattle.batqemulo.specs.Lists.{ListsRefuse, Statements, PairsLabels, PairsLengths, KindsShort, KindsGiven, PairsKinds, MovesLabels, MovesLengths}
+use Rattle.batqemulo.specs.Texts.{TextRefuses, StatementsGiven, TextStatements, TextLabels, TextLengths}
 use Rattle.batqemulo.specs.declared.Answer.{Answer}
 use Rattle.batqemulo.specs.declared.Answer.the-variants.{Refused, Given}
 use Rattle.batqemulo.specs.declared.CAnswer.{CAnswer}
@@ -97,6 +101,39 @@ unique-moves-labels marks from to = unique-pairs-labels marks to from
 pub unique-moves-lengths : (marks from to room : List ℕ) (a a′ : Answer) (after after′ : List ℕ) → MovesLengths marks from to room a after → MovesLengths marks from to room a′ after′ → (a ≡ a′) × (after ≡ after′)
 unique-moves-lengths marks from to = unique-pairs-lengths marks to from
 
+-- A text is the written form of one register at most, so its refusals and answers are one too.
+module _ (s : List ℕ) where
+  text-once : (Short : Register → Type 0) (r r′ : Refusal) → TextRefuses s Short r → TextRefuses s Short r′ → r ≡ r′
+  text-once Short r r′ (inl p) (inl q) = text.refuses-once s r r′ p q
+  text-once Short r r′ (inl p) (inr q) = absurd (text.not-both s (q .0) r (q .1) p)
+  text-once Short r r′ (inr p) (inl q) = absurd (text.not-both s (p .0) r′ (p .1) q)
+  text-once Short r r′ (inr p) (inr q) = p .3 ∙ sym (q .3)
+
+  text-apart : (Short : Register → Type 0) (r : Refusal) (R : Register) → TextRefuses s Short r → Accepts s R → ¬ Short R → ⊥
+  text-apart Short r R (inl p) a n = text.not-both s R r a p
+  text-apart Short r R (inr p) a n = n (subst Short (text.accepts-once s (p .0) R (p .1) a) (p .2))
+
+  text-statements-unique : (number : Verdict → ℕ) (room : List ℕ) (a a′ : Answer) (after after′ : List ℕ) → TextStatements s number room a after → TextStatements s number room a′ after′ → (a ≡ a′) × (after ≡ after′)
+  text-statements-unique number room = promised-unique (TextRefuses s Short) (StatementsGiven s number room) (text-once Short) (λ r n after p g. text-apart Short r (g .0) p (g .1) (λ h. omega (arith, g .2, g .3 .fits))) same room
+    where
+      Short : Register → Type 0
+      Short R = length room < length (R .statements)
+
+      entry : Register → ℕ → ℕ → Type 0
+      entry R x e = (v : Verdict) × Means (book R) x v × (e ≡ number v)
+
+      same : (n n′ : ℕ) (after after′ : List ℕ) → StatementsGiven s number room n after → StatementsGiven s number room n′ after′ → (n ≡ n′) × (after ≡ after′)
+      same n n′ after after′ (R, a, e, b) (R′, a′, e′, b′) =
+          let f : R′ ≡ R = text.accepts-once s R′ R a′ a in
+          let q : n′ ≡ n = e′ ∙ ap (λ (T : Register). length (T .statements)) f ∙ sym e in
+          (sym q, begins-unique (entry R) room n after after′ (λ k i j h. statement-number (book R) number k i j) b (rw q at (subst (λ T. Begins n′ (entry T) room after′) f b′)))
+
+  pub unique-text-labels : (room : List ℕ) (a a′ : Answer) (after after′ : List ℕ) → TextLabels s room a after → TextLabels s room a′ after′ → (a ≡ a′) × (after ≡ after′)
+  unique-text-labels = text-statements-unique _
+
+  pub unique-text-lengths : (room : List ℕ) (a a′ : Answer) (after after′ : List ℕ) → TextLengths s room a after → TextLengths s room a′ after′ → (a ≡ a′) × (after ≡ after′)
+  unique-text-lengths = text-statements-unique _
+
 pub unique-batqemulo-pairs-labels : (marks objectors targets : List ℕ) (room : List ℕ) (c c′ : CAnswer) (after after′ : List ℕ) → InC (λ a. PairsLabels marks objectors targets room a after) c → InC (λ a. PairsLabels marks objectors targets room a after′) c′ → (c ≡ c′) × (after ≡ after′)
 unique-batqemulo-pairs-labels marks objectors targets room = in-c-unique (PairsLabels marks objectors targets room) (unique-pairs-labels marks objectors targets room)
 
@@ -111,3 +148,9 @@ unique-batqemulo-moves-labels marks from to room = in-c-unique (MovesLabels mark
 
 pub unique-batqemulo-moves-lengths : (marks from to : List ℕ) (room : List ℕ) (c c′ : CAnswer) (after after′ : List ℕ) → InC (λ a. MovesLengths marks from to room a after) c → InC (λ a. MovesLengths marks from to room a after′) c′ → (c ≡ c′) × (after ≡ after′)
 unique-batqemulo-moves-lengths marks from to room = in-c-unique (MovesLengths marks from to room) (unique-moves-lengths marks from to room)
+
+pub unique-batqemulo-text-labels : (s room : List ℕ) (c c′ : CAnswer) (after after′ : List ℕ) → InC (λ a. TextLabels s room a after) c → InC (λ a. TextLabels s room a after′) c′ → (c ≡ c′) × (after ≡ after′)
+unique-batqemulo-text-labels s room = in-c-unique (TextLabels s room) (unique-text-labels s room)
+
+pub unique-batqemulo-text-lengths : (s room : List ℕ) (c c′ : CAnswer) (after after′ : List ℕ) → InC (λ a. TextLengths s room a after) c → InC (λ a. TextLengths s room a after′) c′ → (c ≡ c′) × (after ≡ after′)
+unique-batqemulo-text-lengths s room = in-c-unique (TextLengths s room) (unique-text-lengths s room)

@@ -1,2 +1,3 @@
 pub mod Answer
 pub mod Lists
+pub mod Texts

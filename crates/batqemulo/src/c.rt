@@ -2,9 +2,11 @@
 use crate::Answer;
 use crate::CAnswer;
 use crate::lists;
+use crate::texts;
 ghost use mathlib.Core.Path.{_≡_};
 ghost use Rattle.batqemulo.specs.Answer.{inC, InC};
 ghost use Rattle.batqemulo.specs.Lists.{PairsLabels, PairsLengths, PairsKinds, MovesLabels, MovesLengths};
+ghost use Rattle.batqemulo.specs.Texts.{TextLabels, TextLengths};
 
 fn in_c(answer: Answer) -> CAnswer
     ensures { λ c. ⌜ c ≡ inC answer ⌝ }
@@ -82,4 +84,20 @@ pub extern "C" fn batqemulo_moves_lengths(
     ensures { λ c. ⌜ InC (λ a. MovesLengths (now (marks .entry)) (now (from .entry)) (now (to .entry)) (now (lengths .entry)) a (now (lengths .exit))) c ⌝ }
 {
     in_c(lists::moves_lengths(marks, from, to, lengths))
+}
+
+// Labels of a register text.
+#[no_mangle]
+pub extern "C" fn batqemulo_text_labels(text: &[u8], labels: &mut [u8]) -> CAnswer
+    ensures { λ c. ⌜ InC (λ a. TextLabels (now (text .entry)) (now (labels .entry)) a (now (labels .exit))) c ⌝ }
+{
+    in_c(texts::text_labels(text, labels))
+}
+
+// Lengths of a register text.
+#[no_mangle]
+pub extern "C" fn batqemulo_text_lengths(text: &[u8], lengths: &mut [u16]) -> CAnswer
+    ensures { λ c. ⌜ InC (λ a. TextLengths (now (text .entry)) (now (lengths .entry)) a (now (lengths .exit))) c ⌝ }
+{
+    in_c(texts::text_lengths(text, lengths))
 }

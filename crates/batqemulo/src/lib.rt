@@ -3,6 +3,7 @@
 // are filled or left as found.
 pub mod c;
 pub mod lists;
+pub mod texts;
 
 use refusal::Refusal;
 

@@ -1,4 +1,5 @@
 pub mod Search
+pub mod Find
 pub mod Count
 pub mod Rules
 pub mod Game

@@ -6,3 +6,4 @@ pub mod Agree
 pub mod Objection
 pub mod Line
 pub mod Finish
+pub mod Find

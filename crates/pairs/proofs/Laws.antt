@@ -1,57 +1,18 @@
--- Every list is accepted or refused, never both, and with one refusal only. And what the searches need to go on by one.
+-- Every list is accepted or refused, never both, and with one refusal only.
 use mathlib.Core.List.{List}
 use mathlib.Core.Logic.{_⊎_, inl, inr, _↔_}
 use mathlib.Core.Option.{Option, some, none}
 use mathlib.Core.Path.{_≡_, refl, sym, ap, _∙_}
-use Prim.Native.Nat.{ℕ, zero, suc, _+_, _≤_, _<_}
-use native.Mathlib.Nat.{not-suc-le-zero}
+use Prim.Native.Nat.{ℕ, _≤_, _<_}
 use native.Mathlib.Decide.{ℕ-discrete, decLe, decLt}
 use native.Mathlib.Omega.{arith}
 use lib.ListN.{length, getD}
 use Rattle.game.specs.Book.{InOrder}
+use Rattle.game.specs.Find.{First}
+use Rattle.game.proofs.Find.{first-below, first-once}
 use Rattle.refusal.specs.declared.Refusal.{Refusal}
 use Rattle.refusal.specs.declared.Refusal.the-variants.{TooLong, Unended, Spoiled, Late, Issued, Statements, Unknown, Repeated, Objections, Room, Unequal, Mark, Place, Asked, Turns}
-use Rattle.pairs.specs.Refuses.{First, BadMark, BadPlace, Same, Repeat, Lists, Refuses, Found}
-
--- A search goes on by one, ends with none, or ends here.
-module _ (Fault : ℕ → Type 0) where
-  pub further : (k : ℕ) → ((j : ℕ) → j < k → ¬ Fault j) → ¬ Fault k → (j : ℕ) → j < k + 1 → ¬ Fault j
-  further k f n j h = go (ℕ-discrete j k)
-    where
-      go : Dec (j ≡ k) → ¬ Fault j
-      go (yes e) = rw e n
-      go (no d) = f j (omega arith)
-
-  pub found-none : (n k : ℕ) → ((j : ℕ) → j < k → ¬ Fault j) → k ≡ n → Found Fault n k
-  found-none n k f e = (omega arith, f, λ h. absurd (omega arith))
-
-  pub found-here : (n k : ℕ) → k < n → ((j : ℕ) → j < k → ¬ Fault j) → Fault k → Found Fault n k
-  found-here n k h f p = (omega arith, f, λ _. p)
-
-  -- what a search that is over has found
-  pub found-first : (n r : ℕ) → Found Fault n r → r < n → First Fault r
-  found-first n r f h = (f .2 h, f .1)
-
-  pub found-clear : (n r : ℕ) → ((j : ℕ) → Fault j → j < n) → Found Fault n r → n ≤ r → (j : ℕ) → ¬ Fault j
-  found-clear n r bound f h j p = f .1 j (omega (arith, bound j p)) p
-
-  -- the first of those that have a fault, where that can be decided and lies below n
-  first-below : ((k : ℕ) → Dec (Fault k)) → (n : ℕ) → ((k : ℕ) × First Fault k) ⊎ ((k : ℕ) → k < n → ¬ Fault k)
-  first-below d zero = inr (λ k h. absurd (not-suc-le-zero h))
-  first-below d (suc n) = go (first-below d n) (d n)
-    where
-      go : ((k : ℕ) × First Fault k) ⊎ ((k : ℕ) → k < n → ¬ Fault k) → Dec (Fault n) → ((k : ℕ) × First Fault k) ⊎ ((k : ℕ) → k < suc n → ¬ Fault k)
-      go (inl p) e = inl p
-      go (inr f) (yes p) = inl (n, (p, f))
-      go (inr f) (no q) = inr (λ k h. further n f q k (omega arith))
-
-  first-once : (k j : ℕ) → First Fault k → First Fault j → k ≡ j
-  first-once k j (p, f) (q, g) = go (decLt k j) (decLt j k)
-    where
-      go : Dec (k < j) → Dec (j < k) → k ≡ j
-      go (yes a) d = absurd (g k a p)
-      go (no a) (yes b) = absurd (f j b q)
-      go (no a) (no b) = omega arith
+use Rattle.pairs.specs.Refuses.{BadMark, BadPlace, Same, Repeat, Lists, Refuses}
 
 module _ (marks objectors targets : List ℕ) where
   -- what passes every row is accepted, and the other way round
@@ -163,9 +124,9 @@ module _ (marks objectors targets : List ℕ) where
   repeat? k = both? (decLt k (length objectors)) (go (first-below Earlier (λ j. both? (decLt j k) (both? (ℕ-discrete (getD objectors j 0) (getD objectors k 0)) (ℕ-discrete (getD targets j 0) (getD targets k 0)))) k))
     where
       Earlier : ℕ → Type 0
-      Earlier j = (j < k) × Same objectors targets k j
+      Earlier j = (j < k) × Same objectors targets (getD objectors k 0) (getD targets k 0) j
 
-      go : ((j : ℕ) × First Earlier j) ⊎ ((j : ℕ) → j < k → ¬ Earlier j) → Dec ((j : ℕ) × (j < k) × Same objectors targets k j)
+      go : ((j : ℕ) × First Earlier j) ⊎ ((j : ℕ) → j < k → ¬ Earlier j) → Dec ((j : ℕ) × (j < k) × Same objectors targets (getD objectors k 0) (getD targets k 0) j)
       go (inl (j, f)) = yes (j, f .0 .0, f .0 .1)
       go (inr f) = no (λ w. f (w .0) (w .1) (w .1, w .2))
 

@@ -6,14 +6,11 @@ use mathlib.Core.Path.{_≡_}
 use Prim.Native.Nat.{ℕ, _≤_, _<_}
 use lib.ListN.{length, getD}
 use Rattle.game.specs.Book.{InOrder}
+use Rattle.game.specs.Find.{First}
 use Rattle.refusal.specs.declared.Refusal.{Refusal}
 use Rattle.refusal.specs.declared.Refusal.the-variants.{TooLong, Unended, Spoiled, Late, Issued, Statements, Unknown, Repeated, Objections, Room, Unequal, Mark, Place, Asked, Turns}
 use Rattle.pairs.specs.declared.Checked.{Checked}
 use Rattle.pairs.specs.declared.Checked.the-variants.{Accepted, Refused}
-
--- k is the first entry at fault
-abbrev pub First : (ℕ → Type 0) → ℕ → Type 0
-First Fault k = Fault k × ((j : ℕ) → j < k → ¬ Fault j)
 
 -- 12: "mark other than 0 or 1"
 abbrev pub BadMark : (marks : List ℕ) → ℕ → Type 0
@@ -23,13 +20,13 @@ BadMark marks k = (k < length marks) × (1 < getD marks k 0)
 abbrev pub BadPlace : (marks objectors targets : List ℕ) → ℕ → Type 0
 BadPlace marks objectors targets k = (k < length objectors) × ((length marks ≤ getD objectors k 0) ⊎ (length marks ≤ getD targets k 0))
 
--- the pair at k stands at j too
-abbrev pub Same : (objectors targets : List ℕ) → ℕ → ℕ → Type 0
-Same objectors targets k j = (getD objectors j 0 ≡ getD objectors k 0) × (getD targets j 0 ≡ getD targets k 0)
+-- the entry j is the objection of y against x
+abbrev pub Same : (objectors targets : List ℕ) → ℕ → ℕ → ℕ → Type 0
+Same objectors targets y x j = (getD objectors j 0 ≡ y) × (getD targets j 0 ≡ x)
 
 -- 8: "same objector and target as earlier"
 abbrev pub Repeat : (objectors targets : List ℕ) → ℕ → Type 0
-Repeat objectors targets k = (k < length objectors) × ((j : ℕ) × (j < k) × Same objectors targets k j)
+Repeat objectors targets k = (k < length objectors) × ((j : ℕ) × (j < k) × Same objectors targets (getD objectors k 0) (getD targets k 0) j)
 
 module _ (marks objectors targets : List ℕ) where
   -- equal lengths, within the limits, marks 0 or 1, places inside, no pair twice
@@ -61,7 +58,3 @@ module _ (marks objectors targets : List ℕ) where
   abbrev pub Checks : Checked → Type 0
   Checks Accepted = Lists
   Checks (Refused r) = Refuses r
-
--- The entries of a list that a search has passed: the first at fault is r, or there is none and r is n. Not for callers.
-abbrev pub Found : (ℕ → Type 0) → ℕ → ℕ → Type 0
-Found Fault n r = (r ≤ n) × ((j : ℕ) → j < r → ¬ Fault j) × (r < n → Fault r)

@@ -2,9 +2,10 @@
 // entry at fault. Labels, and the room for the answer, are left to others.
 use refusal::Refusal;
 ghost use mathlib.Core.Path.{_≡_};
-ghost use Prim.Native.Nat.{_<_};
+ghost use Prim.Native.Nat.{_<_, _≤_};
 ghost use lib.ListN.{length};
-ghost use Rattle.pairs.specs.Refuses.{BadMark, BadPlace, Repeat, Same, Checks, Found};
+ghost use Rattle.game.specs.Find.{Found};
+ghost use Rattle.pairs.specs.Refuses.{BadMark, BadPlace, Repeat, Same, Checks};
 
 pub enum Checked {
     Accepted,
@@ -49,15 +50,13 @@ pub fn bad_place(marks: &[u8], objectors: &[u32], targets: &[u32]) -> usize
     k
 }
 
-// Where the pair at k stands earlier, or k.
-fn earlier(objectors: &[u32], targets: &[u32], k: usize) -> usize
-    requires { ⌜ (length (now targets) ≡ length (now objectors)) × (k < length (now objectors)) ⌝ }
-    ensures { λ r. ⌜ Found (Same (now (objectors .entry)) (now (targets .entry)) k) k r ⌝ }
+// The first of the entries before n that is the objection of y against x, or n.
+pub fn pair_at(objectors: &[u32], targets: &[u32], n: usize, y: u32, x: u32) -> usize
+    requires { ⌜ (n ≤ length (now objectors)) × (n ≤ length (now targets)) ⌝ }
+    ensures { λ r. ⌜ Found (Same (now (objectors .entry)) (now (targets .entry)) y x) n r ⌝ }
 {
-    let y = objectors[k];
-    let x = targets[k];
     let mut j = 0;
-    while j < k {
+    while j < n {
         if objectors[j] != y {
             j += 1;
             continue;
@@ -78,7 +77,7 @@ fn repeated(objectors: &[u32], targets: &[u32]) -> usize
 {
     let mut k = 0;
     while k < objectors.len() {
-        if earlier(objectors, targets, k) < k {
+        if pair_at(objectors, targets, k, objectors[k], targets[k]) < k {
             return k;
         }
         k += 1;

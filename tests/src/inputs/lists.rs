@@ -6,7 +6,7 @@ use std::fmt;
 /// How many entries of a list are shown where a test failed.
 const SHOWN: usize = 24;
 
-#[derive(Clone, Default)]
+#[derive(Clone, Default, PartialEq, Eq)]
 pub struct Lists {
     pub marks: Vec<u8>,
     pub objectors: Vec<u32>,

@@ -1,9 +1,14 @@
 //! What is handed to the library: small registers in full, random ones of many shapes, the examples
-//! of document 01, and rooms of many lengths.
+//! of document 01, all of them as lists or as texts, damaged texts, and rooms of many lengths.
 
+pub mod damage;
 pub mod draft;
 pub mod examples;
 pub mod lists;
+pub mod numbers;
+pub mod page;
 pub mod rooms;
 pub mod shapes;
 pub mod small;
+pub mod spoiled;
+pub mod text;

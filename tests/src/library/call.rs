@@ -1,9 +1,11 @@
-//! The library's calls on lists. Each answers one question about a register that is handed over in
-//! one of two forms.
+//! The library's calls. Each answers one question about a register that is handed over as lists, in
+//! one of two forms, or as a text.
 
-use super::array::Array;
+use super::array::{Array, Room};
 use crate::inputs::lists::Lists;
-use crate::second::expected::Question;
+use crate::inputs::rooms;
+use crate::inputs::text::Text;
+use crate::second::expected::{Expected, Question};
 
 /// Pairs are handed over as objectors and targets, moves as from (target) and to (objector).
 #[derive(Clone, Copy)]
@@ -20,12 +22,24 @@ pub struct ListCall {
     form: Form,
 }
 
+pub struct TextCall {
+    pub name: &'static str,
+    /// the number by which caller.c knows it
+    pub number: u32,
+    pub question: Question,
+}
+
 pub const LIST_CALLS: [ListCall; 5] = [
     list_call("pairs_labels", 0, Form::Pairs, Question::Labels),
     list_call("pairs_lengths", 1, Form::Pairs, Question::Lengths),
     list_call("pairs_kinds", 2, Form::Pairs, Question::Kinds),
     list_call("moves_labels", 3, Form::Moves, Question::Labels),
     list_call("moves_lengths", 4, Form::Moves, Question::Lengths),
+];
+
+pub const TEXT_CALLS: [TextCall; 2] = [
+    text_call("text_labels", 20, Question::Labels),
+    text_call("text_lengths", 21, Question::Lengths),
 ];
 
 const fn list_call(name: &'static str, number: u32, form: Form, question: Question) -> ListCall {
@@ -37,14 +51,27 @@ const fn list_call(name: &'static str, number: u32, form: Form, question: Questi
     }
 }
 
+const fn text_call(name: &'static str, number: u32, question: Question) -> TextCall {
+    TextCall {
+        name,
+        number,
+        question,
+    }
+}
+
+/// The width in bytes of an entry of each room that a call with this question takes.
+pub fn room_widths(question: Question) -> &'static [usize] {
+    match question {
+        Question::Labels => &[1],
+        Question::Lengths => &[2],
+        Question::Kinds => &[1, 2],
+    }
+}
+
 impl ListCall {
-    /// The width in bytes of an entry of each room.
-    pub fn room_widths(&self) -> &'static [usize] {
-        match self.question {
-            Question::Labels => &[1],
-            Question::Lengths => &[2],
-            Question::Kinds => &[1, 2],
-        }
+    /// How many rooms it takes.
+    pub fn rooms(&self) -> usize {
+        room_widths(self.question).len()
     }
 
     /// How many entries the answer has in each room, if these lists are accepted.
@@ -53,6 +80,11 @@ impl ListCall {
             Question::Labels | Question::Lengths => lists.marks.len(),
             Question::Kinds => lists.objectors.len(),
         }
+    }
+
+    /// Every room just as long as the answer.
+    pub fn fitting(&self, lists: &Lists) -> Vec<Room> {
+        rooms::fitting(self.rooms(), self.answer_length(lists))
     }
 
     /// The lists in the order in which this call takes them.
@@ -67,5 +99,26 @@ impl ListCall {
             Array::input(4, first.clone()),
             Array::input(4, second.clone()),
         ]
+    }
+}
+
+impl TextCall {
+    /// How many entries the answer to this text has. For a refused text it is an entry for each
+    /// line and one more, so that there is something to be left as found.
+    pub fn answer_length(&self, text: &Text, expected: &Expected) -> usize {
+        match expected.refusal {
+            None => expected.answer_length(self.question),
+            Some(_) => text.ended_lines() + 1,
+        }
+    }
+
+    /// The room just as long as the answer.
+    pub fn fitting(&self, text: &Text, expected: &Expected) -> Vec<Room> {
+        vec![Room::Of(self.answer_length(text, expected))]
+    }
+
+    pub fn inputs(&self, text: &Text) -> Vec<Array> {
+        let bytes = text.0.iter().map(|byte| u32::from(*byte)).collect();
+        vec![Array::input(1, bytes)]
     }
 }

@@ -2,11 +2,11 @@
 //! numbers of the answer, every entry of every room, the guards, and that no input has changed.
 
 use super::array::{Array, Room};
-use super::call::{ListCall, LIST_CALLS};
+use super::call::{room_widths, ListCall, TextCall, LIST_CALLS, TEXT_CALLS};
 use super::caller::Caller;
 use crate::inputs::lists::Lists;
-use crate::inputs::rooms;
-use crate::second::expected::{Answer, Expected};
+use crate::inputs::text::Text;
+use crate::second::expected::{Answer, Expected, Question};
 
 pub struct Session {
     caller: Caller,
@@ -33,28 +33,48 @@ impl Session {
 
     /// Holds every call on lists, with rooms of just the answer's length.
     pub fn hold_lists(&mut self, lists: &Lists) -> Result<(), String> {
-        let expected = Expected::of(lists);
+        let expected = Expected::of_lists(lists);
         for call in &LIST_CALLS {
-            self.hold(call, lists, &expected, &rooms::exact(call, lists))?;
+            self.hold_list_call(call, lists, &expected, &call.fitting(lists))?;
         }
         Ok(())
     }
 
-    /// Holds one call on one input with these rooms.
-    pub fn hold(
+    /// Holds every call on a text, with rooms of just the answer's length.
+    pub fn hold_text(&mut self, text: &Text) -> Result<(), String> {
+        let expected = Expected::of_text(text);
+        for call in &TEXT_CALLS {
+            self.hold_text_call(call, text, &expected, &call.fitting(text, &expected))?;
+        }
+        Ok(())
+    }
+
+    /// Holds one call on lists with these rooms.
+    pub fn hold_list_call(
         &mut self,
         call: &ListCall,
         lists: &Lists,
         expected: &Expected,
         rooms: &[Room],
     ) -> Result<(), String> {
-        let lengths: Vec<usize> = rooms.iter().map(|room| room.length()).collect();
-        let answer = expected.answer(call.question, &lengths);
-        let inputs = call.inputs(lists);
-        let lent = call.room_widths().iter().zip(rooms);
-        let lent = lent.map(|(width, room)| Array::room(*width, *room));
-        self.compare(call.number, inputs, lent.collect(), &answer)
+        let answer = expected.answer(call.question, &lengths(rooms));
+        let lent = lent(call.question, rooms);
+        self.compare(call.number, call.inputs(lists), lent, &answer)
             .map_err(|what| format!("{} of {lists}; rooms {rooms:?}: {what}", call.name))
+    }
+
+    /// Holds one call on a text with these rooms.
+    pub fn hold_text_call(
+        &mut self,
+        call: &TextCall,
+        text: &Text,
+        expected: &Expected,
+        rooms: &[Room],
+    ) -> Result<(), String> {
+        let answer = expected.answer(call.question, &lengths(rooms));
+        let lent = lent(call.question, rooms);
+        self.compare(call.number, call.inputs(text), lent, &answer)
+            .map_err(|what| format!("{} of {text}; rooms {rooms:?}: {what}", call.name))
     }
 
     fn compare(
@@ -83,4 +103,16 @@ impl Session {
         }
         Ok(())
     }
+}
+
+fn lengths(rooms: &[Room]) -> Vec<usize> {
+    rooms.iter().map(|room| room.length()).collect()
+}
+
+/// The rooms as arrays, before the call.
+fn lent(question: Question, rooms: &[Room]) -> Vec<Array> {
+    let rooms = room_widths(question).iter().zip(rooms);
+    rooms
+        .map(|(width, room)| Array::room(*width, *room))
+        .collect()
 }

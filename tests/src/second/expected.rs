@@ -3,8 +3,9 @@
 
 use super::refusals::{self, Refusal, SHORT_ROOM};
 use super::verdict::Verdict;
-use super::{kinds, rounds};
+use super::{kinds, register, rounds};
 use crate::inputs::lists::Lists;
+use crate::inputs::text::Text;
 
 /// What a call is asked for, which decides the rooms it takes and what they get.
 #[derive(Clone, Copy, Debug, PartialEq, Eq)]
@@ -14,7 +15,8 @@ pub enum Question {
     Kinds,
 }
 
-/// The answer to one input. The verdicts and kinds are empty where the lists are refused.
+/// The answer to one input. The verdicts and kinds are empty where the input is refused.
+#[derive(Default)]
 pub struct Expected {
     pub refusal: Option<Refusal>,
     pub verdicts: Vec<Verdict>,
@@ -29,24 +31,44 @@ pub struct Answer {
 }
 
 impl Expected {
-    pub fn of(lists: &Lists) -> Self {
-        let refusal = refusals::of_lists(lists);
-        let verdicts = match refusal {
-            None => rounds::verdicts(lists),
-            Some(_) => Vec::new(),
-        };
+    pub fn of_lists(lists: &Lists) -> Self {
+        match refusals::of_lists(lists) {
+            Some(refusal) => Expected::refused(refusal),
+            None => Expected::accepted(lists),
+        }
+    }
+
+    pub fn of_text(text: &Text) -> Self {
+        match register::read(&text.0) {
+            Err(refusal) => Expected::refused(refusal),
+            Ok(register) => Expected::accepted(&register.lists),
+        }
+    }
+
+    fn refused(refusal: Refusal) -> Self {
+        Expected {
+            refusal: Some(refusal),
+            ..Expected::default()
+        }
+    }
+
+    fn accepted(lists: &Lists) -> Self {
+        let verdicts = rounds::verdicts(lists);
         let kind = |(objector, target): (usize, usize)| -> (u32, u32) {
             kinds::kind(verdicts[target], verdicts[objector])
         };
-        let kinds = match refusal {
-            None => lists.objections().map(kind).collect(),
-            Some(_) => Vec::new(),
-        };
+        let kinds = lists.objections().map(kind).collect();
         Expected {
-            refusal,
+            refusal: None,
             verdicts,
             kinds,
         }
+    }
+
+    /// The number of the refusal and its place, or 0 and 0.
+    pub fn refused_as(&self) -> (u32, u32) {
+        let numbers = |refusal: Refusal| (refusal.number, refusal.place);
+        self.refusal.map_or((0, 0), numbers)
     }
 
     /// The answer where the rooms have these lengths.
@@ -70,6 +92,11 @@ impl Expected {
                 rooms: vec![Vec::new(); rooms.len()],
             },
         }
+    }
+
+    /// How many entries each room gets if the call is accepted.
+    pub fn answer_length(&self, question: Question) -> usize {
+        self.entries(question)[0].len()
     }
 
     /// What each room gets if the call is accepted.

@@ -5,5 +5,7 @@ pub mod expected;
 pub mod game;
 pub mod kinds;
 pub mod refusals;
+pub mod register;
 pub mod rounds;
+pub mod text;
 pub mod verdict;

@@ -20,7 +20,7 @@ pub fn tests() -> Vec<Test> {
 
 fn hold(session: &mut Session, example: &Example) -> Result<(), String> {
     let lists = example.lists();
-    let words = in_words(&Expected::of(&lists));
+    let words = in_words(&Expected::of_lists(&lists));
     session.count();
     if words != example.answers() {
         return Err(format!(

@@ -76,7 +76,7 @@ fn sound(random: &mut Random, statements: usize, pairs: usize) -> Lists {
 
 /// Holds every call; the second solver must have come to this refusal, or 0 for none.
 fn answered(session: &mut Session, lists: &Lists, number: u32) -> Result<(), String> {
-    let refusal = Expected::of(lists).refusal;
+    let refusal = Expected::of_lists(lists).refusal;
     if refusal.map_or(0, |refusal| refusal.number) != number {
         return Err(format!(
             "{lists}: the second solver has {refusal:?} and not {number}"

@@ -9,6 +9,7 @@ mod refusals;
 mod rooms;
 mod shapes;
 mod small;
+mod texts;
 
 use crate::library::session::Session;
 
@@ -42,6 +43,7 @@ pub fn all() -> Vec<Test> {
         rooms::tests(),
         refusals::tests(),
         order::tests(),
+        texts::tests(),
     ];
     suites.into_iter().flatten().collect()
 }

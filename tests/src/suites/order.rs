@@ -51,7 +51,7 @@ fn hold_sets(session: &mut Session, call: &ListCall) -> Result<(), String> {
         for arrangement in (0..Arrangement::COUNT).map(Arrangement) {
             let lists = faulty(set, arrangement);
             let rooms = rooms_for(set, arrangement, call, &lists);
-            let expected = Expected::of(&lists);
+            let expected = Expected::of_lists(&lists);
             let lengths: Vec<usize> = rooms.iter().map(|room| room.length()).collect();
             let answered = expected.answer(call.question, &lengths).refusal;
             if answered != first_in_order(set) {
@@ -59,7 +59,7 @@ fn hold_sets(session: &mut Session, call: &ListCall) -> Result<(), String> {
                     "{lists}: the second solver has {answered}, the set {set:07b}"
                 ));
             }
-            session.hold(call, &lists, &expected, &rooms)?;
+            session.hold_list_call(call, &lists, &expected, &rooms)?;
         }
     }
     Ok(())
@@ -106,7 +106,7 @@ fn faulty(set: usize, arrangement: Arrangement) -> Lists {
 /// Rooms that fit, or of which one is too short.
 fn rooms_for(set: usize, arrangement: Arrangement, call: &ListCall, lists: &Lists) -> Vec<Room> {
     let length = call.answer_length(lists);
-    let mut rooms = vec![Room::Of(length); call.room_widths().len()];
+    let mut rooms = vec![Room::Of(length); call.rooms()];
     if has(set, 10) {
         let at = usize::from(arrangement.says(4)) % rooms.len();
         rooms[at] = Room::Of(length - 1);

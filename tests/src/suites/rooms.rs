@@ -49,7 +49,7 @@ fn at_limits(session: &mut Session, call: &ListCall) -> Result<(), String> {
         // 65,536 would be an empty room if it were cut down to 16 bits
         let lengths = [0, 1, right - 1, right, right + 1, 65_535, 65_536];
         let few = [right - 1, right, 65_536];
-        let lengths = if call.room_widths().len() > 1 {
+        let lengths = if call.rooms() > 1 {
             &few[..]
         } else {
             &lengths[..]
@@ -74,14 +74,14 @@ fn hold_each(
     lists: &Lists,
     lengths: &[Room],
 ) -> Result<(), String> {
-    let expected = Expected::of(lists);
+    let expected = Expected::of_lists(lists);
     for first in lengths {
-        if call.room_widths().len() == 1 {
-            session.hold(call, lists, &expected, &[*first])?;
+        if call.rooms() == 1 {
+            session.hold_list_call(call, lists, &expected, &[*first])?;
             continue;
         }
         for second in lengths {
-            session.hold(call, lists, &expected, &[*first, *second])?;
+            session.hold_list_call(call, lists, &expected, &[*first, *second])?;
         }
     }
     Ok(())

@@ -22,13 +22,13 @@ fn hold_all(session: &mut Session, call: &ListCall) -> Result<(), String> {
     for statements in 0..=3 {
         for number in 0..small::count(statements) {
             let lists = small::register(statements, number);
-            let expected = Expected::of(&lists);
-            for rooms in rooms::around(call, &lists) {
-                session.hold(call, &lists, &expected, &rooms)?;
+            let expected = Expected::of_lists(&lists);
+            for rooms in rooms::around(call.rooms(), call.answer_length(&lists)) {
+                session.hold_list_call(call, &lists, &expected, &rooms)?;
             }
             let lists = reordered(&lists, &mut random);
-            let rooms = rooms::exact(call, &lists);
-            session.hold(call, &lists, &Expected::of(&lists), &rooms)?;
+            let expected = Expected::of_lists(&lists);
+            session.hold_list_call(call, &lists, &expected, &call.fitting(&lists))?;
         }
     }
     Ok(())

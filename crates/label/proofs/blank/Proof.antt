@@ -1,3 +1,4 @@
+-- `blank` takes away every label. The invariant: the places passed are blank.
 use borrow.Author.Needs.{needs}
 use native.Mathlib.Omega.{arith}
 use Prim.Native.Nat.{ℕ, _-_, _<_, _≤_}

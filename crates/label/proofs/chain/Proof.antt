@@ -1,3 +1,4 @@
+-- `chain` links the objections of each objector. The invariant: those passed are linked.
 use borrow.Author.Needs.{needs}
 use native.Mathlib.Omega.{arith}
 use Prim.Native.Nat.{_-_, _≤_}

@@ -1,3 +1,4 @@
+-- `count` counts the objections against each place. The invariant: those passed are counted.
 use borrow.Author.Needs.{needs}
 use native.Mathlib.Omega.{arith}
 use Prim.Native.Nat.{_-_, _≤_}

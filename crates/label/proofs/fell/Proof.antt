@@ -1,3 +1,4 @@
+-- `fell` goes along the chain of a standing place. The invariant: what is looked at is the link reached.
 use borrow.Author.Needs.{needs}
 use native.Mathlib.Omega.{arith}
 use Prim.Native.Nat.{_+_, _-_}

@@ -1,3 +1,4 @@
+-- `run` takes the places of the queue in turn. The invariant: the queue is in order; at its end nothing is left to label.
 use borrow.Author.Needs.{needs}
 use native.Mathlib.Omega.{arith}
 use Prim.Native.Nat.{_-_}

@@ -1,3 +1,4 @@
+-- `settle` prepares the chains, the counters and the queue, each in a room of its own.
 use borrow.Author.Needs.{needs}
 use native.Mathlib.Omega.{arith}
 use mathlib.Core.Path.{_∙_}

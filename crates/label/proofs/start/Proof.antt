@@ -1,3 +1,4 @@
+-- `start` queues what is read and has no objector. The invariant: the places passed are settled.
 use borrow.Author.Needs.{needs}
 use native.Mathlib.Omega.{arith}
 use Prim.Native.Nat.{ℕ, _-_, _<_, _≤_}

@@ -3,7 +3,7 @@ use Prim.Native.Nat.{ℕ, _≤_, _<_, _-_}
 use native.Mathlib.Omega.{arith}
 use lib.ListN.{length}
 use Rattle.pairs.specs.Refuses.{BadMark}
-use Rattle.pairs.proofs.Laws.{further, found-none, found-here}
+use Rattle.game.proofs.Find.{further, found-none, found-here}
 use borrow.Author.Needs.{needs}
 use Rattle.pairs.proofs.bad_mark.Statement.{statement}
 use Rattle.pairs.proofs.bad_mark.Tie as tie

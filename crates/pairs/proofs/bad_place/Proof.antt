@@ -4,7 +4,7 @@ use Prim.Native.Nat.{ℕ, _≤_, _<_, _-_}
 use native.Mathlib.Omega.{arith}
 use lib.ListN.{length}
 use Rattle.pairs.specs.Refuses.{BadPlace}
-use Rattle.pairs.proofs.Laws.{further, found-none, found-here}
+use Rattle.game.proofs.Find.{further, found-none, found-here}
 use borrow.Author.Needs.{needs}
 use Rattle.pairs.proofs.bad_place.Statement.{statement}
 use Rattle.pairs.proofs.bad_place.Tie as tie

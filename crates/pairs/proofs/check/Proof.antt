@@ -1,7 +1,8 @@
 -- `check` goes through the rows of 01's table in order; each search that found nothing rules its row out.
 use native.Mathlib.Omega.{arith}
 use Rattle.pairs.specs.Refuses.{BadMark, BadPlace, Repeat}
-use Rattle.pairs.proofs.Laws.{found-first, found-clear, accepted}
+use Rattle.game.proofs.Find.{found-first, found-clear}
+use Rattle.pairs.proofs.Laws.{accepted}
 use borrow.Author.Needs.{needs}
 use Rattle.pairs.proofs.check.Statement.{statement}
 use Rattle.pairs.proofs.check.Tie as tie

@@ -2,8 +2,8 @@
 use Prim.Native.Nat.{ℕ, _≤_, _<_, _-_}
 use native.Mathlib.Omega.{arith}
 use lib.ListN.{length}
+use Rattle.game.proofs.Find.{further, found-none, found-here}
 use Rattle.pairs.specs.Refuses.{Repeat}
-use Rattle.pairs.proofs.Laws.{further, found-none, found-here}
 use borrow.Author.Needs.{needs}
 use Rattle.pairs.proofs.repeated.Statement.{statement}
 use Rattle.pairs.proofs.repeated.Tie as tie
@@ -17,13 +17,25 @@ abbrev μ-loop : tie.MeasureT-loop
     length objectors - k
 
 loop-holds : tie.Need-loop-holds Inv-loop μ-loop
-loop-holds c = search needs
+loop-holds c = (search needs, λ j h. absurd (omega arith))
 
-earlier-requires : tie.Need-earlier-requires Inv-loop μ-loop
-earlier-requires c κs = search needs
+mul-pair-at : tie.Need-mul-pair-at Inv-loop μ-loop
+mul-pair-at c = search needs
+
+shared-slice-read-pair-at : tie.Need-shared-slice-read-pair-at Inv-loop μ-loop
+shared-slice-read-pair-at c = search needs
+
+mul-pair-at-2 : tie.Need-mul-pair-at-2 Inv-loop μ-loop
+mul-pair-at-2 c = search needs
+
+shared-slice-read-pair-at-2 : tie.Need-shared-slice-read-pair-at-2 Inv-loop μ-loop
+shared-slice-read-pair-at-2 c = search needs
+
+pair-at-requires : tie.Need-pair-at-requires Inv-loop μ-loop
+pair-at-requires c κs = search needs
 
 returns : tie.Need-returns Inv-loop μ-loop
-returns c = found-here _ _ _ (omega arith) (c .before .before .before .loop .inv .1) (omega arith, (c .before .earlier .result, c .if1 .taken, c .before .earlier .ensures .2 (c .if1 .taken)))
+returns c = found-here _ _ _ (c .before .before .before .before .loop-test .taken) (c .before .before .before .before .before .loop .inv .1) (c .before .before .before .before .loop-test .taken, (c .before .pair-at .result, c .if1 .taken, c .before .pair-at .ensures .2 (c .if1 .taken)))
 
 add-k : tie.Need-add-k Inv-loop μ-loop
 add-k c = search needs
@@ -32,7 +44,7 @@ loop-less : tie.Need-loop-less Inv-loop μ-loop
 loop-less c = search needs
 
 loop-again : tie.Need-loop-again Inv-loop μ-loop
-loop-again c = (search needs, further _ _ (c .before .before .before .loop .inv .1) (λ b. c .before .earlier .ensures .1 (b .1 .0) (omega (arith, b .1 .1)) (b .1 .2)))
+loop-again c = (search needs, further _ _ (c .before .before .before .before .before .loop .inv .1) (λ b. c .before .pair-at .ensures .1 (b .1 .0) (omega (arith, b .1 .1)) (b .1 .2)))
 
 returns-2 : tie.Need-returns-2 Inv-loop μ-loop
 returns-2 c = found-none _ _ _ (c .before .loop .inv .1) (omega arith)
@@ -44,7 +56,11 @@ repeated-spec =
     Inv-loop
     μ-loop
     loop-holds
-    earlier-requires
+    mul-pair-at
+    shared-slice-read-pair-at
+    mul-pair-at-2
+    shared-slice-read-pair-at-2
+    pair-at-requires
     returns
     add-k
     loop-less

@@ -1,29 +1,19 @@
--- `earlier` finds the first place before k where the same pair stands. The invariant: none was passed.
+-- `pair_at` finds the first entry that is the pair. The invariant: none was passed.
 use Prim.Native.Nat.{ℕ, _≤_, _<_, _-_}
 use native.Mathlib.Omega.{arith}
+use Rattle.game.proofs.Find.{further, found-none, found-here}
 use Rattle.pairs.specs.Refuses.{Same}
-use Rattle.pairs.proofs.Laws.{further}
 use borrow.Author.Needs.{needs}
-use Rattle.pairs.proofs.earlier.Statement.{statement}
-use Rattle.pairs.proofs.earlier.Tie as tie
+use Rattle.pairs.proofs.pair_at.Statement.{statement}
+use Rattle.pairs.proofs.pair_at.Tie as tie
 
 abbrev Inv-loop : tie.InvT-loop
-Inv-loop objectors targets k y x j₀ j = (j ≤ k) × ((i : ℕ) → i < j → ¬ Same objectors targets k i)
+Inv-loop objectors targets n y x j₀ j =
+    (j ≤ n) × ((i : ℕ) → i < j → ¬ Same objectors targets y x i)
 
 abbrev μ-loop : tie.MeasureT-loop
-μ-loop objectors targets k y x j₀ j = k - j
-
-mul-y : tie.Need-mul-y Inv-loop μ-loop
-mul-y c = search needs
-
-shared-slice-read-y : tie.Need-shared-slice-read-y Inv-loop μ-loop
-shared-slice-read-y c = search needs
-
-mul-x : tie.Need-mul-x Inv-loop μ-loop
-mul-x c = search needs
-
-shared-slice-read-x : tie.Need-shared-slice-read-x Inv-loop μ-loop
-shared-slice-read-x c = search needs
+μ-loop objectors targets n y x j₀ j =
+    n - j
 
 loop-holds : tie.Need-loop-holds Inv-loop μ-loop
 loop-holds c = (search needs, λ j h. absurd (omega arith))
@@ -59,21 +49,17 @@ loop-again-2 : tie.Need-loop-again-2 Inv-loop μ-loop
 loop-again-2 c = (search needs, further _ _ (c .before .before .before .before .before .loop .inv .1) (λ s. c .if2 .taken (s .1)))
 
 returns : tie.Need-returns Inv-loop μ-loop
-returns c = search needs
+returns c = found-here _ _ _ (c .before .before .before .before .loop-test .taken) (c .before .before .before .before .before .loop .inv .1) (c .before .before .if1 .left, c .if2 .left)
 
 returns-2 : tie.Need-returns-2 Inv-loop μ-loop
-returns-2 c = search needs
+returns-2 c = found-none _ _ _ (c .before .loop .inv .1) (omega arith)
 
-pub earlier-spec : {M : Type 1} → statement M
-earlier-spec =
+pub pair-at-spec : {M : Type 1} → statement M
+pair-at-spec =
     tie.close
     (tie.spec
     Inv-loop
     μ-loop
-    mul-y
-    shared-slice-read-y
-    mul-x
-    shared-slice-read-x
     loop-holds
     mul-if1
     shared-slice-read-if1

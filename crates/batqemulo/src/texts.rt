@@ -1,0 +1,138 @@
+// The calls on a register text. Each reads the text into rooms of its own, labels the register, and writes its answer only
+// where there is room for all of it.
+use crate::Answer;
+use refusal::Refusal;
+use text::Reading;
+ghost use mathlib.Core.Path.{_≡_};
+ghost use Prim.Native.Nat.{_≤_};
+ghost use lib.ListN.{length, getD, take};
+ghost use Rattle.label.specs.Labelled.{Handed, Solved};
+ghost use Rattle.text.specs.State.{Spacious};
+ghost use Rattle.batqemulo.specs.Answer.{Begins};
+ghost use Rattle.batqemulo.specs.Texts.{TextLabels, TextLengths, SolvedText};
+
+// Labels the n statements and m objections that rooms begin with.
+fn solve_rooms(
+    marks: &[u8],
+    objectors: &[u32],
+    targets: &[u32],
+    n: usize,
+    m: usize,
+    labels: &mut [u8],
+    lengths: &mut [u16],
+)
+    requires { ⌜ (n ≤ length (now marks)) × (m ≤ length (now objectors)) × (m ≤ length (now targets)) ⌝ }
+    requires { ⌜ Handed (take n (now marks)) (take m (now objectors)) (take m (now targets)) ⌝ }
+    requires { ⌜ (n ≤ length (now labels)) × (n ≤ length (now lengths)) ⌝ }
+    ensures { λ _. ⌜ Solved (take n (now (marks .entry))) (take m (now (objectors .entry))) (take m (now (targets .entry))) (now (labels .entry)) (now (lengths .entry)) (now (labels .exit)) (now (lengths .exit)) ⌝ }
+{
+    label::solve(&marks[..n], &objectors[..m], &targets[..m], labels, lengths);
+}
+
+// Reads a text and labels its register, all in lent rooms.
+fn solve_text(
+    text: &[u8],
+    numbers: &mut [u32],
+    marks: &mut [u8],
+    objectors: &mut [u32],
+    targets: &mut [u32],
+    labels: &mut [u8],
+    lengths: &mut [u16],
+) -> Reading
+    requires { ⌜ Spacious (now numbers) (now marks) (now objectors) (now targets) ⌝ }
+    requires { ⌜ (1024 ≤ length (now labels)) × (1024 ≤ length (now lengths)) ⌝ }
+    ensures { λ r. ⌜ SolvedText (now (text .entry)) (now (numbers .exit)) (now (marks .exit)) (now (objectors .exit)) (now (targets .exit)) (now (labels .exit)) (now (lengths .exit)) r ⌝ }
+{
+    let reading = text::read(text, numbers, marks, objectors, targets);
+    match reading {
+        Reading::Refused(refusal) => Reading::Refused(refusal),
+        Reading::Whole(n, m) => {
+            solve_rooms(marks, objectors, targets, n, m, labels, lengths);
+            Reading::Whole(n, m)
+        }
+    }
+}
+
+fn copy_labels(from: &[u8], n: usize, room: &mut [u8])
+    requires { ⌜ (n ≤ length (now from)) × (n ≤ length (now room)) ⌝ }
+    ensures { λ _. ⌜ Begins n (λ k e. e ≡ getD (now (from .entry)) k 0) (now (room .entry)) (now (room .exit)) ⌝ }
+{
+    let mut k = 0;
+    while k < n {
+        room[k] = from[k];
+        k += 1;
+    }
+}
+
+fn copy_lengths(from: &[u16], n: usize, room: &mut [u16])
+    requires { ⌜ (n ≤ length (now from)) × (n ≤ length (now room)) ⌝ }
+    ensures { λ _. ⌜ Begins n (λ k e. e ≡ getD (now (from .entry)) k 0) (now (room .entry)) (now (room .exit)) ⌝ }
+{
+    let mut k = 0;
+    while k < n {
+        room[k] = from[k];
+        k += 1;
+    }
+}
+
+// The label of each statement, in listed order.
+pub fn text_labels(text: &[u8], room: &mut [u8]) -> Answer
+    ensures { λ a. ⌜ TextLabels (now (text .entry)) (now (room .entry)) a (now (room .exit)) ⌝ }
+{
+    let mut numbers = [0u32; 1024];
+    let mut marks = [0u8; 1024];
+    let mut objectors = [0u32; 4096];
+    let mut targets = [0u32; 4096];
+    let mut labels = [0u8; 1024];
+    let mut lengths = [0u16; 1024];
+    let reading = solve_text(
+        text,
+        &mut numbers,
+        &mut marks,
+        &mut objectors,
+        &mut targets,
+        &mut labels,
+        &mut lengths,
+    );
+    match reading {
+        Reading::Refused(refusal) => Answer::Refused(refusal),
+        Reading::Whole(n, _) => {
+            if room.len() < n {
+                return Answer::Refused(Refusal::Room);
+            }
+            copy_labels(&labels, n, room);
+            Answer::Given(n as u32)
+        }
+    }
+}
+
+// The length of each statement, in listed order; 65,535 for an open one.
+pub fn text_lengths(text: &[u8], room: &mut [u16]) -> Answer
+    ensures { λ a. ⌜ TextLengths (now (text .entry)) (now (room .entry)) a (now (room .exit)) ⌝ }
+{
+    let mut numbers = [0u32; 1024];
+    let mut marks = [0u8; 1024];
+    let mut objectors = [0u32; 4096];
+    let mut targets = [0u32; 4096];
+    let mut labels = [0u8; 1024];
+    let mut lengths = [0u16; 1024];
+    let reading = solve_text(
+        text,
+        &mut numbers,
+        &mut marks,
+        &mut objectors,
+        &mut targets,
+        &mut labels,
+        &mut lengths,
+    );
+    match reading {
+        Reading::Refused(refusal) => Answer::Refused(refusal),
+        Reading::Whole(n, _) => {
+            if room.len() < n {
+                return Answer::Refused(Refusal::Room);
+            }
+            copy_lengths(&lengths, n, room);
+            Answer::Given(n as u32)
+        }
+    }
+}

@@ -1,0 +1,11 @@
+-- Searches through numbered entries, as contracts say them: the first entry with a property, and where a search over the
+-- entries below n ends.
+use Prim.Native.Nat.{ℕ, _≤_, _<_}
+
+-- k is the first entry that has the property
+abbrev pub First : (ℕ → Type 0) → ℕ → Type 0
+First P k = P k × ((j : ℕ) → j < k → ¬ P j)
+
+-- r is the first of the entries below n that has the property, or there is none and r is n
+abbrev pub Found : (ℕ → Type 0) → ℕ → ℕ → Type 0
+Found P n r = (r ≤ n) × ((j : ℕ) → j < r → ¬ P j) × (r < n → P r)

@@ -1,0 +1,4 @@
+pub mod Number
+pub mod Reading
+pub mod Fields
+pub mod Lines

@@ -1,0 +1,67 @@
+-- The lists that a register in order makes are in order themselves.
+use mathlib.Core.List.{List, [], _∷_, map}
+use mathlib.Core.Path.{_≡_, refl, sym, _∙_}
+use Prim.Native.Nat.{ℕ, zero, suc, _≤_, _<_}
+use native.Mathlib.Nat.{not-suc-le-zero, le-of-suc-le-suc}
+use native.Mathlib.Decide.{ℕ-discrete}
+use native.Mathlib.Omega.{arith}
+use lib.Dec.{eqb}
+use lib.ListN.{length, getD, length-map}
+use borrow.Author.Tests.{eq-eqb, ne-eqb}
+use Rattle.game.specs.Book.{InOrder}
+use Rattle.line.specs.Lines.{markNumber}
+use Rattle.line.specs.declared.Mark.{Mark}
+use Rattle.line.specs.declared.Mark.the-variants.{Read, Unread}
+use Rattle.line.specs.declared.StatementLine.{StatementLine}
+use Rattle.line.specs.declared.ObjectionLine.{ObjectionLine}
+use Rattle.text.specs.Register.{Register, numbers, objectorNumbers, targetNumbers, Issued, Valid, pick, placeOf, marksOf, objectorsOf, targetsOf}
+
+-- a number that is there has its place among the others
+pub place-listed : (ns : List ℕ) (v i : ℕ) → i < length ns → getD ns i 0 ≡ v → placeOf ns v < length ns
+unfolding placeOf
+place-listed [] v i l e = absurd (not-suc-le-zero l)
+place-listed (a ∷ ns) v i l e = go (ℕ-discrete a v) i l e (λ j k q. place-listed ns v j k q)
+  where
+    go : Dec (a ≡ v) → (i : ℕ) → i < length (a ∷ ns) → getD (a ∷ ns) i 0 ≡ v → ((j : ℕ) → j < length ns → getD ns j 0 ≡ v → placeOf ns v < length ns) → pick (eqb a v) 0 (suc (placeOf ns v)) < length (a ∷ ns)
+    go (yes p) i l e f = rw (eq-eqb a v p) (omega arith)
+    go (no p) zero l e f = absurd (p e)
+    go (no p) (suc i) l e f = rw (ne-eqb a v p) (let h : placeOf ns v < length ns = f i (le-of-suc-le-suc l) e in omega arith)
+
+module _ (R : Register) (valid : Valid R) where
+  -- as many marks as numbers, and as many objectors and targets as objections
+  pub marks-counted : length (marksOf R) ≡ length (R .statements)
+  marks-counted = length-map (R .statements) (λ (st : StatementLine). markNumber (st .mark))
+
+  pub objectors-counted : length (objectorsOf R) ≡ length (R .objections)
+  objectors-counted = length-map (objectorNumbers R) (placeOf (numbers R)) ∙ length-map (R .objections) (λ (o : ObjectionLine). o .objector)
+
+  pub targets-counted : length (targetsOf R) ≡ length (R .objections)
+  targets-counted = length-map (targetNumbers R) (placeOf (numbers R)) ∙ length-map (R .objections) (λ (o : ObjectionLine). o .target)
+
+  numbers-counted : length (numbers R) ≡ length (marksOf R)
+  numbers-counted = length-map (R .statements) (λ (st : StatementLine). st .number) ∙ sym marks-counted
+
+  mapped : (u : List ℕ) (i : ℕ) → i < length u → getD (map (placeOf (numbers R)) u) i 0 ≡ placeOf (numbers R) (getD u i 0)
+  mapped [] i k = absurd (not-suc-le-zero k)
+  mapped (a ∷ u) zero k = refl
+  mapped (a ∷ u) (suc i) k = mapped u i (le-of-suc-le-suc k)
+
+  listed : (v : ℕ) → Issued R v → placeOf (numbers R) v < length (marksOf R)
+  listed v (i, l, e) = omega (arith, place-listed (numbers R) v i l e, numbers-counted)
+
+  low : (m : Mark) → markNumber m ≤ 1
+  low Read = omega arith
+  low Unread = omega arith
+
+  low-marks : (S : List StatementLine) (x : ℕ) → getD (map (λ (st : StatementLine). markNumber (st .mark)) S) x 0 ≤ 1
+  low-marks [] x = omega arith
+  low-marks (st ∷ S) zero = low (st .mark)
+  low-marks (st ∷ S) (suc x) = low-marks S x
+
+  pub register-in-order : InOrder (marksOf R) (objectorsOf R) (targetsOf R)
+  register-in-order = record {
+    paired = targets-counted ∙ sym objectors-counted;
+    marked = λ x h. low-marks (R .statements) x;
+    objector = λ k h. rw (mapped (objectorNumbers R) k (omega (arith, h, objectors-counted, length-map (R .objections) (λ (o : ObjectionLine). o .objector)))) (listed (getD (objectorNumbers R) k 0) (valid .known k (omega (arith, h, objectors-counted)) .0));
+    target = λ k h. rw (mapped (targetNumbers R) k (omega (arith, h, objectors-counted, length-map (R .objections) (λ (o : ObjectionLine). o .target)))) (listed (getD (targetNumbers R) k 0) (valid .known k (omega (arith, h, objectors-counted)) .1));
+  }

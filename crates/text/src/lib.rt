@@ -1,0 +1,179 @@
+// The register text: read line by line into lent rooms, or refused with 01's number and line. What a line is, is left to
+// `line`; labels are left to others.
+use line::Got;
+use line::Line;
+use line::ObjectionLine;
+use line::StatementLine;
+use refusal::Refusal;
+ghost use mathlib.Core.Bool.{true, false};
+ghost use mathlib.Core.Path.{_≡_};
+ghost use Prim.Native.Nat.{_+_, _<_, _≤_};
+ghost use lib.ListN.{length, getD};
+ghost use Rattle.game.specs.Find.{Found};
+ghost use Rattle.text.specs.Reads.{NotEnded};
+ghost use Rattle.text.specs.State.{Spacious, ReadsTo, StatementTaken, ObjectionTaken};
+
+// The number of statements and of objections, now in the rooms.
+pub enum Reading {
+    Whole(usize, usize),
+    Refused(Refusal),
+}
+
+pub enum Taken {
+    Kept,
+    AtFault(Refusal),
+}
+
+// Whether the text is empty or ends with byte 10.
+fn ended(text: &[u8]) -> bool
+    ensures { λ r. ⌜ ((r ≡ true → ¬ NotEnded (now (text .entry))) × (r ≡ false → NotEnded (now (text .entry)))) ⌝ }
+{
+    let n = text.len();
+    if n == 0 {
+        return true;
+    }
+    if text[n - 1] == 10 {
+        return true;
+    }
+    false
+}
+
+// The place of a number among the first n, or n.
+pub fn find(numbers: &[u32], n: usize, number: u32) -> usize
+    requires { ⌜ n ≤ length (now numbers) ⌝ }
+    ensures { λ r. ⌜ Found (λ x. getD (now (numbers .entry)) x 0 ≡ number) n r ⌝ }
+{
+    let mut x = 0;
+    while x < n {
+        if numbers[x] == number {
+            return x;
+        }
+        x += 1;
+    }
+    x
+}
+
+// Takes a statement line after n statements and m objections: 4, 6, 5, or kept.
+fn take_statement(
+    numbers: &mut [u32],
+    marks: &mut [u8],
+    n: usize,
+    m: usize,
+    statement: StatementLine,
+    line_no: u32,
+) -> Taken
+    requires { ⌜ (n ≤ 1024) × (1024 ≤ length (now numbers)) × (1024 ≤ length (now marks)) ⌝ }
+    ensures { λ t. ⌜ StatementTaken (now (numbers .entry)) (now (marks .entry)) n m statement «line_no» (now (numbers .exit)) (now (marks .exit)) t ⌝ }
+{
+    if m > 0 {
+        return Taken::AtFault(Refusal::Late(line_no));
+    }
+    if n >= 1024 {
+        return Taken::AtFault(Refusal::Statements(line_no));
+    }
+    let number = statement.number;
+    if find(numbers, n, number) < n {
+        return Taken::AtFault(Refusal::Issued(line_no));
+    }
+    let mark = statement.mark;
+    numbers[n] = number;
+    marks[n] = line::mark_number(mark);
+    Taken::Kept
+}
+
+// Takes an objection line after n statements and m objections: 9, 7, 8, or kept, by the places of its numbers.
+fn take_objection(
+    numbers: &[u32],
+    objectors: &mut [u32],
+    targets: &mut [u32],
+    n: usize,
+    m: usize,
+    objection: ObjectionLine,
+    line_no: u32,
+) -> Taken
+    requires { ⌜ (n ≤ 1024) × (m ≤ 4096) × (1024 ≤ length (now numbers)) × (4096 ≤ length (now objectors)) × (4096 ≤ length (now targets)) ⌝ }
+    ensures { λ t. ⌜ ObjectionTaken (now (numbers .entry)) (now (objectors .entry)) (now (targets .entry)) n m objection «line_no» (now (objectors .exit)) (now (targets .exit)) t ⌝ }
+{
+    if m >= 4096 {
+        return Taken::AtFault(Refusal::Objections(line_no));
+    }
+    let objector = objection.objector;
+    let y = find(numbers, n, objector);
+    if y >= n {
+        return Taken::AtFault(Refusal::Unknown(line_no));
+    }
+    let target = objection.target;
+    let x = find(numbers, n, target);
+    if x >= n {
+        return Taken::AtFault(Refusal::Unknown(line_no));
+    }
+    if pairs::pair_at(objectors, targets, m, y as u32, x as u32) < m {
+        return Taken::AtFault(Refusal::Repeated(line_no));
+    }
+    objectors[m] = y as u32;
+    targets[m] = x as u32;
+    Taken::Kept
+}
+
+// Reads a text that is short enough and ended, line by line.
+fn read_lines(
+    text: &[u8],
+    numbers: &mut [u32],
+    marks: &mut [u8],
+    objectors: &mut [u32],
+    targets: &mut [u32],
+) -> Reading
+    requires { ⌜ (length (now text) ≤ 65535) × (¬ NotEnded (now text)) ⌝ }
+    requires { ⌜ Spacious (now numbers) (now marks) (now objectors) (now targets) ⌝ }
+    ensures { λ r. ⌜ ReadsTo (now (text .entry)) (now (numbers .exit)) (now (marks .exit)) (now (objectors .exit)) (now (targets .exit)) r ⌝ }
+{
+    let mut at = 0;
+    let mut n = 0;
+    let mut m = 0;
+    while at < text.len() {
+        let line_no = (n + m + 1) as u32;
+        let Got::Good(line, next) = line::reader::line_from(text, at) else {
+            return Reading::Refused(Refusal::Spoiled(line_no));
+        };
+        match line {
+            Line::Statement(statement) => {
+                let taken = take_statement(numbers, marks, n, m, statement, line_no);
+                if let Taken::AtFault(refusal) = taken {
+                    return Reading::Refused(refusal);
+                }
+                n += 1;
+                at = next;
+                continue;
+            }
+            Line::Objection(objection) => {
+                let taken = take_objection(numbers, objectors, targets, n, m, objection, line_no);
+                if let Taken::AtFault(refusal) = taken {
+                    return Reading::Refused(refusal);
+                }
+                m += 1;
+                at = next;
+            }
+        }
+    }
+    Reading::Whole(n, m)
+}
+
+// Reads a register text into rooms for 1,024 statements and 4,096 objections.
+pub fn read(
+    text: &[u8],
+    numbers: &mut [u32],
+    marks: &mut [u8],
+    objectors: &mut [u32],
+    targets: &mut [u32],
+) -> Reading
+    requires { ⌜ Spacious (now numbers) (now marks) (now objectors) (now targets) ⌝ }
+    ensures { λ r. ⌜ ReadsTo (now (text .entry)) (now (numbers .exit)) (now (marks .exit)) (now (objectors .exit)) (now (targets .exit)) r ⌝ }
+{
+    if text.len() > 65535 {
+        return Reading::Refused(Refusal::TooLong);
+    }
+    if ended(text) {
+        return read_lines(text, numbers, marks, objectors, targets);
+    }
+    Reading::Refused(Refusal::Unended)
+}

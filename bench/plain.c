@@ -1,6 +1,6 @@
-/* The library's work as a C programmer would write it by hand: the checks of the lists, then
- * retrograde analysis in linear time with a queue, counters and chains. Nothing here is proved; it
- * is the yardstick of the benchmark. */
+/* The library's work on lists as a C programmer would write it by hand: the checks of the lists,
+ * then retrograde analysis in linear time with a queue, counters and chains. Nothing here is
+ * proved; it is the yardstick of the benchmark. */
 #include "plain.h"
 
 #include <string.h>
@@ -115,20 +115,21 @@ static void solve(struct board *b, uint8_t *labels, uint16_t *lengths) {
         pass_on(b, labels, lengths, b->queue[taken]);
 }
 
-static void board_of(struct board *b, const uint8_t *marks, size_t statements,
-                     const uint32_t *objectors, const uint32_t *targets, size_t pairs) {
-    b->marks = marks;
-    b->statements = statements;
-    b->objectors = objectors;
-    b->targets = targets;
-    b->pairs = pairs;
+void plain_solve(const uint8_t *marks, size_t statements, const uint32_t *objectors,
+                 const uint32_t *targets, size_t pairs, uint8_t *labels, uint16_t *lengths) {
+    struct board b;
+    b.marks = marks;
+    b.statements = statements;
+    b.objectors = objectors;
+    b.targets = targets;
+    b.pairs = pairs;
+    solve(&b, labels, lengths);
 }
 
 batqemulo_answer plain_pairs_labels(const uint8_t *marks, size_t marks_len,
                                     const uint32_t *objectors, size_t objectors_len,
                                     const uint32_t *targets, size_t targets_len, uint8_t *labels,
                                     size_t labels_len) {
-    struct board b;
     uint16_t lengths[BATQEMULO_MAX_STATEMENTS];
     batqemulo_answer found =
         check(marks, marks_len, objectors, objectors_len, targets, targets_len);
@@ -139,8 +140,7 @@ batqemulo_answer plain_pairs_labels(const uint8_t *marks, size_t marks_len,
         return answer(BATQEMULO_OBJECTION_REPEATED, i);
     if (labels_len < marks_len)
         return answer(BATQEMULO_ROOM_TOO_SHORT, 0);
-    board_of(&b, marks, marks_len, objectors, targets, objectors_len);
-    solve(&b, labels, lengths);
+    plain_solve(marks, marks_len, objectors, targets, objectors_len, labels, lengths);
     return answer(BATQEMULO_ACCEPTED, marks_len);
 }
 
@@ -148,12 +148,10 @@ uint32_t plain_solver_label(const uint8_t *marks, size_t marks_len, const uint32
                             size_t objectors_len, const uint32_t *targets, size_t targets_len,
                             uint8_t *labels, size_t labels_len, uint16_t *lengths,
                             size_t lengths_len) {
-    struct board b;
     batqemulo_answer found =
         check(marks, marks_len, objectors, objectors_len, targets, targets_len);
     if (found.refusal != BATQEMULO_ACCEPTED || labels_len < marks_len || lengths_len < marks_len)
         return 0;
-    board_of(&b, marks, marks_len, objectors, targets, objectors_len);
-    solve(&b, labels, lengths);
+    plain_solve(marks, marks_len, objectors, targets, objectors_len, labels, lengths);
     return 1;
 }

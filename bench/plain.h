@@ -1,9 +1,13 @@
-/* The library's work written plainly in C, to time the library against. Both functions answer what
+/* The library's work written plainly in C, to time the library against. Each function answers what
  * the library's function of the same shape answers. */
 #ifndef PLAIN_H
 #define PLAIN_H
 
 #include "batqemulo.h"
+
+/* Labels and lengths of lists without a fault, in linear time. */
+void plain_solve(const uint8_t *marks, size_t statements, const uint32_t *objectors,
+                 const uint32_t *targets, size_t pairs, uint8_t *labels, uint16_t *lengths);
 
 /* As batqemulo_pairs_labels, the search for a repeated pair quadratic as the library's is. */
 batqemulo_answer plain_pairs_labels(const uint8_t *marks, size_t marks_len,
@@ -17,5 +21,10 @@ uint32_t plain_solver_label(const uint8_t *marks, size_t marks_len, const uint32
                             size_t objectors_len, const uint32_t *targets, size_t targets_len,
                             uint8_t *labels, size_t labels_len, uint16_t *lengths,
                             size_t lengths_len);
+
+/* As batqemulo_listing: numbers are looked up by hashing, and the search for a repeated objection
+ * is quadratic. */
+batqemulo_answer plain_listing(const uint8_t *text, size_t text_len, uint8_t *room,
+                               size_t room_len);
 
 #endif

@@ -29,6 +29,9 @@ extern "C" {
 #define BATQEMULO_MAX_OBJECTIONS 4096
 #define BATQEMULO_MAX_TEXT_BYTES 65535
 
+/* A room of so many bytes has space for every listing. */
+#define BATQEMULO_MAX_LISTING_BYTES 131072
+
 /* The length of what has none: of an open statement, of an idle objection and of a standoff. Every
  * other length is at most BATQEMULO_MAX_STATEMENTS. */
 #define BATQEMULO_NO_LENGTH 65535
@@ -37,8 +40,8 @@ extern "C" {
 typedef struct {
     /* BATQEMULO_ACCEPTED, or the number of the refusal */
     uint32_t refusal;
-    /* accepted: how many entries were written; refused: the place of the fault, which is 0 where
-     * the table of refusals names none */
+    /* accepted: how many entries or bytes were written; refused: the place of the fault, which is
+     * 0 where the table of refusals names none */
     uint32_t value;
 } batqemulo_answer;
 
@@ -108,6 +111,19 @@ enum batqemulo_kind {
  *
  *   10  the room is shorter than the answer
  */
+
+/* Writes the listing, which is a text too: lines ended by byte 10, fields parted by one tab.
+ *
+ *   REGISTER  statements  objections     how many there are
+ *   number  label  length                for each statement line, in their order
+ *   objector  target  kind  length       for each objection line, in their order
+ *
+ * A label is open, stands or falls; a kind is idle, felling, delaying or standoff. Lengths and
+ * counts are decimal, and the length of what has none is written -. No listing has more than
+ * BATQEMULO_MAX_LISTING_BYTES, and nothing is written behind its last byte 10.
+ * Refusals: 1, 2, then 3 to 9 line by line, then 10. */
+batqemulo_answer batqemulo_listing(const uint8_t *text, size_t text_len, uint8_t *room,
+                                   size_t room_len);
 
 /* Writes the label of each statement, in the order of the statement lines: one entry for each.
  * Refusals: 1, 2, then 3 to 9 line by line, then 10. */

@@ -100,6 +100,8 @@ static batqemulo_answer call_on_text(uint32_t call, const struct array *a) {
         return batqemulo_text_labels(a[0].lent, a[0].len, a[1].lent, a[1].len);
     case 21:
         return batqemulo_text_lengths(a[0].lent, a[0].len, a[1].lent, a[1].len);
+    case 22:
+        return batqemulo_listing(a[0].lent, a[0].len, a[1].lent, a[1].len);
     }
     stop("a call on a text that is not there");
     return (batqemulo_answer){0, 0};

@@ -25,6 +25,7 @@ struct example {
     uint8_t kinds[MOST];
     uint16_t kind_lengths[MOST];
     const char *text;
+    const char *listing;
 };
 
 /* The game a, b, c, d, which are the places 0 to 3 and the numbers 101 to 104. */
@@ -41,6 +42,8 @@ static const struct example game = {
     {NO, NO, NO, 1},
     "S\t101\tR\nS\t102\tR\nS\t103\tR\nS\t104\tR\n"
     "O\t102\t101\nO\t101\t102\nO\t103\t102\nO\t104\t103\n",
+    "REGISTER\t4\t4\n101\topen\t-\n102\topen\t-\n103\tfalls\t1\n104\tstands\t0\n"
+    "102\t101\tstandoff\t-\n101\t102\tstandoff\t-\n103\t102\tidle\t-\n104\t103\tfelling\t1\n",
 };
 
 /* 4 against 3, 3 against 2, 2 against 1, and 1 is unread; they are the places 0 to 3 in this order.
@@ -57,6 +60,8 @@ static const struct example chain = {
     {BATQEMULO_FELLING, BATQEMULO_DELAYING, BATQEMULO_FELLING},
     {1, 2, 3},
     "S\t4\tR\nS\t3\tR\nS\t2\tR\nS\t1\tU\nO\t4\t3\nO\t3\t2\nO\t2\t1\n",
+    "REGISTER\t4\t3\n4\tstands\t0\n3\tfalls\t1\n2\tstands\t2\n1\tfalls\t3\n"
+    "4\t3\tfelling\t1\n3\t2\tdelaying\t2\n2\t1\tfelling\t3\n",
 };
 
 static unsigned passed, failed;
@@ -150,6 +155,23 @@ static void ask_text(const struct example *e) {
     free(text);
 }
 
+/* The listing in a room that is just as long, then in the room that has space for every listing. */
+static void ask_listing(const struct example *e) {
+    const uint8_t *text = (const uint8_t *)e->text;
+    size_t bytes = strlen(e->text), printed = strlen(e->listing);
+    uint8_t *listing = room(printed);
+    batqemulo_answer answer = batqemulo_listing(text, bytes, listing, printed);
+    check(e, "the listing", accepted(answer, printed) && memcmp(listing, e->listing, printed) == 0);
+    answer = batqemulo_listing(text, bytes, listing, printed - 1);
+    check(e, "a short room for the listing", refused(answer, BATQEMULO_ROOM_TOO_SHORT, 0));
+    free(listing);
+    listing = room(BATQEMULO_MAX_LISTING_BYTES);
+    answer = batqemulo_listing(text, bytes, listing, BATQEMULO_MAX_LISTING_BYTES);
+    check(e, "the listing in a large room",
+          accepted(answer, printed) && memcmp(listing, e->listing, printed) == 0);
+    free(listing);
+}
+
 /* A refusal gives its number and place, and the room stays as it was. */
 static void be_refused(const struct example *e) {
     uint8_t labels[MOST] = {7, 7, 7, 7};
@@ -196,6 +218,8 @@ static void ask_of_nothing(void) {
     check(&nothing, "labels of a text", accepted(batqemulo_text_labels(NULL, 0, NULL, 0), 0));
     check(&nothing, "lengths of a text",
           accepted(batqemulo_text_lengths((const uint8_t *)"", 0, NULL, 0), 0));
+    check(&nothing, "no room for its listing",
+          refused(batqemulo_listing(NULL, 0, NULL, 0), BATQEMULO_ROOM_TOO_SHORT, 0));
 }
 
 int main(void) {
@@ -205,6 +229,7 @@ int main(void) {
         ask_lengths(examples[i]);
         ask_kinds(examples[i]);
         ask_text(examples[i]);
+        ask_listing(examples[i]);
         be_refused(examples[i]);
         have_text_refused(examples[i]);
     }

@@ -1,12 +1,18 @@
-# Sourced by tests/run and bench/run: how a C program that links the library is built and started on
-# this machine. `rt staticlib` writes code for x86-64. There, gcc links it and the program runs by
-# itself. Elsewhere the kit's own compiler, C library and emulator serve, as they do for `rt check`,
-# and the headers are those that gcc finds.
+# Sourced by tests/run, tests/program.sh and bench/run: how programs are built and started on this
+# machine. The kit writes code for x86-64. There, gcc links the library into a C program, and that
+# runs by itself. Elsewhere the kit's own compiler, C library and emulator serve, as they do for
+# `rt check`, and the headers are those that gcc finds.
 # shellcheck shell=bash
 
-# start: the words that start such a program; none where it runs by itself
+tools=$(dirname "$(dirname "$(rt doc)")")/on/$(uname -m)/toolchain
+loader=("$tools/lib/ld-linux-x86-64.so.2" --library-path "$tools/lib")
+
+# emulator: the word before all others where code for x86-64 is emulated; none where it is not
+# start: the words that start a C program which `program` built
+# start_list: the words that start a program which `rt check` built, as rt itself does
 # program OUT WORDS..: compiles and links OUT; WORDS are flags, sources and archives
 if [ "$(uname -m)" = x86_64 ]; then
+    emulator=()
     start=()
     program() {
         local out=$1
@@ -14,8 +20,8 @@ if [ "$(uname -m)" = x86_64 ]; then
         gcc "$@" -o "$out"
     }
 else
-    tools=$(dirname "$(dirname "$(rt doc)")")/on/$(uname -m)/toolchain
-    start=("$tools/bin/qemu-x86_64" "$tools/lib/ld-linux-x86-64.so.2" --library-path "$tools/lib")
+    emulator=("$tools/bin/qemu-x86_64")
+    start=("${emulator[@]}" "${loader[@]}")
     mapfile -t headers < <(gcc -xc -E -v - </dev/null 2>&1 |
         sed -n '/starts here/,/^End/s/^ /-isystem/p')
     program() {
@@ -27,3 +33,4 @@ else
             "$lib"/{crtendS,crtn}.o -o "$out"
     }
 fi
+start_list=("${emulator[@]}" "${loader[@]}")

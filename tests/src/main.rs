@@ -1,6 +1,7 @@
 //! The outside tests of the library. Its calls are made through the C functions and held against a
 //! second solver that shares nothing with it. The words after this program's name are the command
-//! that starts the caller (caller.c); tests/run gives them.
+//! that starts the caller (caller.c); tests/run gives them. Two more uses are for tests/program.sh:
+//! `print` prints what the listing program ought to print, `examples FOLDER` writes 01's examples.
 
 #![deny(warnings)]
 #![forbid(unsafe_code)]
@@ -11,23 +12,54 @@ mod random;
 mod second;
 mod suites;
 
+use inputs::examples::EXAMPLES;
+use inputs::text::Text;
 use library::caller::Caller;
 use library::session::Session;
+use second::expected::Expected;
+use second::listing;
+use std::io::{Error, Read, Write};
+use std::path::Path;
 use std::process::ExitCode;
 
 fn main() -> ExitCode {
-    let command: Vec<String> = std::env::args().skip(1).collect();
-    if command.is_empty() {
-        eprintln!("usage: outside CALLER WORDS..");
-        return ExitCode::from(2);
-    }
-    match Caller::start(&command) {
-        Ok(caller) => run(Session::new(caller)),
-        Err(why) => {
-            eprintln!("{why}");
-            ExitCode::from(2)
+    let words: Vec<String> = std::env::args().skip(1).collect();
+    let ended = match words.as_slice() {
+        [] => Err("usage: outside CALLER WORDS.., print, or examples FOLDER".to_string()),
+        [word] if word == "print" => print().map_err(|error| error.to_string()),
+        [word, folder] if word == "examples" => {
+            write_examples(Path::new(folder)).map_err(|error| error.to_string())
         }
+        command => Caller::start(command).map(|caller| run(Session::new(caller))),
+    };
+    ended.unwrap_or_else(|why| {
+        eprintln!("{why}");
+        ExitCode::from(2)
+    })
+}
+
+/// Prints what the second solver makes of the text on standard input.
+fn print() -> Result<ExitCode, Error> {
+    let mut text = Text::default();
+    std::io::stdin().read_to_end(&mut text.0)?;
+    let expected = Expected::of_text(&text);
+    std::io::stdout().write_all(&listing::print(&expected))?;
+    Ok(ExitCode::SUCCESS)
+}
+
+/// Writes the text of each example of 01, and beside it what the program ought to print.
+fn write_examples(folder: &Path) -> Result<ExitCode, Error> {
+    for example in &EXAMPLES {
+        std::fs::write(
+            folder.join(format!("{}.txt", example.name)),
+            example.text().0,
+        )?;
+        std::fs::write(
+            folder.join(format!("{}.listing", example.name)),
+            example.print(),
+        )?;
     }
+    Ok(ExitCode::SUCCESS)
 }
 
 fn run(mut session: Session) -> ExitCode {

@@ -1,10 +1,10 @@
 -- From the rooms that reading leaves to the solver, and from the solver to what the text calls promise.
-use mathlib.Core.List.{List}
+use mathlib.Core.List.{List, _++_}
 use mathlib.Core.Logic.{inr}
 use mathlib.Core.Path.{_≡_, refl, sym, _∙_}
 use Prim.Native.Nat.{ℕ, _≤_, _<_}
 use native.Mathlib.Omega.{arith}
-use lib.ListN.{length, getD, take}
+use lib.ListN.{length, getD, take, drop}
 use Rattle.game.specs.Book.{bookOf}
 use Rattle.game.specs.Label.{labelNumber, lengthNumber}
 use Rattle.label.specs.Labelled.{Handed, Solved}
@@ -13,8 +13,12 @@ use Rattle.refusal.specs.declared.Refusal.the-variants.{Room}
 use Rattle.text.specs.State.{ReadsTo}
 use Rattle.text.specs.declared.Reading.the-variants.{Whole}
 use Rattle.text.proofs.Order.{marks-counted, objectors-counted, register-in-order}
+use Rattle.listing.specs.Listing.{IsListing, Ready}
+use Rattle.listing.proofs.Listing.{listing-once, listing-short}
 use Rattle.batqemulo.specs.Answer.{Begins}
-use Rattle.batqemulo.specs.Texts.{SolvedText, StatementsGiven, TextRefuses}
+use Rattle.batqemulo.specs.declared.Answer.{Answer}
+use Rattle.batqemulo.specs.declared.Answer.the-variants.{Refused, Given}
+use Rattle.batqemulo.specs.Texts.{SolvedText, StatementsGiven, TextRefuses, TextListing, ListingWritten}
 
 pub register-handed : (R : Register) → Valid R → Handed (marksOf R) (objectorsOf R) (targetsOf R)
 register-handed R v = record {
@@ -40,6 +44,9 @@ module _ (s nums marks objectors targets labels lengths : List ℕ) (n m : ℕ) 
 
   pub few-listed : n ≤ 1024
   few-listed = omega (arith, w .2 .statements, w .1 .valid .few-statements)
+
+  pub few-objections : m ≤ 4096
+  few-objections = omega (arith, w .2 .objections, w .1 .valid .few-objections)
 
   pub labels-given : (room after : List ℕ) → Begins n (λ k e. e ≡ getD labels k 0) room after → StatementsGiven s labelNumber room n after
   unfolding bookOf
@@ -71,3 +78,31 @@ module _ (s nums marks objectors targets labels lengths : List ℕ) (n m : ℕ) 
 
   pub room-short : (room : List ℕ) → length room < n → TextRefuses s (λ R. length room < length (R .statements)) Room
   room-short room h = inr (w .0, w .1, omega (arith, w .2 .statements), refl)
+
+  -- the register is ready to be listed, and its listing is short
+  pub rooms-ready : 1024 ≤ length labels → 1024 ≤ length lengths → Ready (w .0) (take n nums) (take n marks) (take m objectors) (take m targets) labels lengths
+  rooms-ready a b = record {
+    valid = w .1 .valid;
+    numbers-are = w .2 .numbers-are;
+    marks-are = w .2 .marks-are;
+    objectors-are = w .2 .objectors-are;
+    targets-are = w .2 .targets-are;
+    labels-room = omega (arith, w .1 .valid .few-statements);
+    lengths-room = omega (arith, w .1 .valid .few-statements);
+    labelled = w .3;
+  }
+
+  pub rooms-short : (l : List ℕ) → IsListing (w .0) l → length l ≤ 131072
+  rooms-short l i = listing-short s (w .0) l (w .1) i
+
+  pub listing-promised : (room : List ℕ) (a : Answer) (after : List ℕ) → ListingWritten (w .0) room a after → TextListing s room a after
+  listing-promised room (Refused r) after (p, q) = (inr (w .0, w .1, p .0, p .1), q)
+  listing-promised room (Given k) after p = (w .0, w .1, p)
+
+-- where the listing is too long for the room, and where it was written
+module _ (R : Register) (room : List ℕ) (size : ℕ) (l : List ℕ) (is : IsListing R l) (counts : size ≡ length l) where
+  pub too-long : length room < size → ListingWritten R room (Refused Room) room
+  too-long h = (((l, is, omega arith), refl), refl)
+
+  pub well-written : (after : List ℕ) → size ≤ length room → ((k : List ℕ) × IsListing R k × (after ≡ k ++ drop (length k) room)) → ListingWritten R room (Given size) after
+  well-written after h (k, i, e) = (l, is, counts, omega arith, rw (listing-once R k l i is) at e)

@@ -1,10 +1,10 @@
 -- Every promise leaves one answer and one content of the rooms: `unique-CALL` for each public call.
-use mathlib.Core.List.{List}
+use mathlib.Core.List.{List, _++_}
 use mathlib.Core.Logic.{inl, inr}
 use mathlib.Core.Path.{_≡_, sym, _∙_, ap, subst}
 use Prim.Native.Nat.{ℕ, _<_}
 use native.Mathlib.Omega.{arith}
-use lib.ListN.{length, getD}
+use lib.ListN.{length, getD, drop}
 use Rattle.game.specs.Book.{Book, bookOf}
 use Rattle.game.specs.Label.{Verdict, Means}
 use Rattle.game.specs.Objection.{OfKind}
@@ -16,10 +16,12 @@ use Rattle.pairs.proofs.Laws.{refuses-once, not-both}
 use Rattle.text.specs.Register.{Register, book}
 use Rattle.text.specs.Reads.{Accepts}
 use Rattle.text.proofs.Unique as text
+use Rattle.listing.specs.Listing.{IsListing}
+use Rattle.listing.proofs.Listing.{listing-once}
 use Rattle.refusal.specs.declared.Refusal.{Refusal}
 use Rattle.batqemulo.specs.Answer.{Promised, Begins, inC, InC}
 use Rattle.batqemulo.specs.Lists.{ListsRefuse, Statements, PairsLabels, PairsLengths, KindsShort, KindsGiven, PairsKinds, MovesLabels, MovesLengths}
-use Rattle.batqemulo.specs.Texts.{TextRefuses, StatementsGiven, TextStatements, TextLabels, TextLengths}
+use Rattle.batqemulo.specs.Texts.{TextRefuses, StatementsGiven, TextStatements, TextLabels, TextLengths, ListingIn, ListingShort, TextListing}
 use Rattle.batqemulo.specs.declared.Answer.{Answer}
 use Rattle.batqemulo.specs.declared.Answer.the-variants.{Refused, Given}
 use Rattle.batqemulo.specs.declared.CAnswer.{CAnswer}
@@ -134,6 +136,20 @@ module _ (s : List ℕ) where
   pub unique-text-lengths : (room : List ℕ) (a a′ : Answer) (after after′ : List ℕ) → TextLengths s room a after → TextLengths s room a′ after′ → (a ≡ a′) × (after ≡ after′)
   unique-text-lengths = text-statements-unique _
 
+  pub unique-text-listing : (room : List ℕ) (a a′ : Answer) (after after′ : List ℕ) → TextListing s room a after → TextListing s room a′ after′ → (a ≡ a′) × (after ≡ after′)
+  unique-text-listing room = promised-unique (TextRefuses s (ListingShort room)) Gives (text-once (ListingShort room)) (λ r n after p g. text-apart (ListingShort room) r (g .0) p (g .1) (fits n after g)) same room
+    where
+      Gives : ℕ → List ℕ → Type 0
+      Gives n after = (R : Register) × Accepts s R × ListingIn R room n after
+
+      fits : (n : ℕ) (after : List ℕ) (g : Gives n after) → ¬ ListingShort room (g .0)
+      fits n after (R, a, (l, is, c, h, e)) (k, isn, t) = omega (arith, h, t, ap length (listing-once R k l isn is))
+
+      same : (n n′ : ℕ) (after after′ : List ℕ) → Gives n after → Gives n′ after′ → (n ≡ n′) × (after ≡ after′)
+      same n n′ after after′ (R, a, (l, is, c, h, e)) (R′, a′, (l′, is′, c′, h′, e′)) =
+          let q : l ≡ l′ = listing-once R l l′ is (subst (λ T. IsListing T l′) (text.accepts-once s R′ R a′ a) is′) in
+          (c ∙ ap length q ∙ sym c′, e ∙ ap (λ k. k ++ drop (length k) room) q ∙ sym e′)
+
 pub unique-batqemulo-pairs-labels : (marks objectors targets : List ℕ) (room : List ℕ) (c c′ : CAnswer) (after after′ : List ℕ) → InC (λ a. PairsLabels marks objectors targets room a after) c → InC (λ a. PairsLabels marks objectors targets room a after′) c′ → (c ≡ c′) × (after ≡ after′)
 unique-batqemulo-pairs-labels marks objectors targets room = in-c-unique (PairsLabels marks objectors targets room) (unique-pairs-labels marks objectors targets room)
 
@@ -154,3 +170,6 @@ unique-batqemulo-text-labels s room = in-c-unique (TextLabels s room) (unique-te
 
 pub unique-batqemulo-text-lengths : (s room : List ℕ) (c c′ : CAnswer) (after after′ : List ℕ) → InC (λ a. TextLengths s room a after) c → InC (λ a. TextLengths s room a after′) c′ → (c ≡ c′) × (after ≡ after′)
 unique-batqemulo-text-lengths s room = in-c-unique (TextLengths s room) (unique-text-lengths s room)
+
+pub unique-batqemulo-listing : (s room : List ℕ) (c c′ : CAnswer) (after after′ : List ℕ) → InC (λ a. TextListing s room a after) c → InC (λ a. TextListing s room a after′) c′ → (c ≡ c′) × (after ≡ after′)
+unique-batqemulo-listing s room = in-c-unique (TextListing s room) (unique-text-listing s room)

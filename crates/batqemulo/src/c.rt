@@ -6,7 +6,7 @@ use crate::texts;
 ghost use mathlib.Core.Path.{_≡_};
 ghost use Rattle.batqemulo.specs.Answer.{inC, InC};
 ghost use Rattle.batqemulo.specs.Lists.{PairsLabels, PairsLengths, PairsKinds, MovesLabels, MovesLengths};
-ghost use Rattle.batqemulo.specs.Texts.{TextLabels, TextLengths};
+ghost use Rattle.batqemulo.specs.Texts.{TextLabels, TextLengths, TextListing};
 
 fn in_c(answer: Answer) -> CAnswer
     ensures { λ c. ⌜ c ≡ inC answer ⌝ }
@@ -100,4 +100,12 @@ pub extern "C" fn batqemulo_text_lengths(text: &[u8], lengths: &mut [u16]) -> CA
     ensures { λ c. ⌜ InC (λ a. TextLengths (now (text .entry)) (now (lengths .entry)) a (now (lengths .exit))) c ⌝ }
 {
     in_c(texts::text_lengths(text, lengths))
+}
+
+// The listing of a text.
+#[no_mangle]
+pub extern "C" fn batqemulo_listing(text: &[u8], room: &mut [u8]) -> CAnswer
+    ensures { λ c. ⌜ InC (λ a. TextListing (now (text .entry)) (now (room .entry)) a (now (room .exit))) c ⌝ }
+{
+    in_c(texts::text_listing(text, room))
 }

@@ -3,13 +3,17 @@
 use crate::Answer;
 use refusal::Refusal;
 use text::Reading;
+ghost use mathlib.Core.List.{List};
 ghost use mathlib.Core.Path.{_≡_};
-ghost use Prim.Native.Nat.{_≤_};
+ghost use Prim.Native.Nat.{ℕ, _≤_};
 ghost use lib.ListN.{length, getD, take};
 ghost use Rattle.label.specs.Labelled.{Handed, Solved};
+ghost use Rattle.text.specs.Register.{Register};
 ghost use Rattle.text.specs.State.{Spacious};
+ghost use Rattle.text.specs.declared.Reading.the-variants.{Whole};
+ghost use Rattle.listing.specs.Listing.{IsListing, Ready};
 ghost use Rattle.batqemulo.specs.Answer.{Begins};
-ghost use Rattle.batqemulo.specs.Texts.{TextLabels, TextLengths, SolvedText};
+ghost use Rattle.batqemulo.specs.Texts.{TextLabels, TextLengths, TextListing, ListingWritten, SolvedText};
 
 // Labels the n statements and m objections that rooms begin with.
 fn solve_rooms(
@@ -134,5 +138,89 @@ pub fn text_lengths(text: &[u8], room: &mut [u16]) -> Answer
             copy_lengths(&lengths, n, room);
             Answer::Given(n as u32)
         }
+    }
+}
+
+// Writes the listing of a register that is labelled, if there is room for all of it.
+fn write_listing(
+    numbers: &[u32],
+    marks: &[u8],
+    objectors: &[u32],
+    targets: &[u32],
+    labels: &[u8],
+    lengths: &[u16],
+    room: &mut [u8],
+) -> Answer
+    requires { ⌜ ((R : Register) × Ready R (now numbers) (now marks) (now objectors) (now targets) (now labels) (now lengths) × ((l : List ℕ) → IsListing R l → length l ≤ 131072)) ⌝ }
+    ensures { λ a. ⌜ ((R : Register) → Ready R (now (numbers .entry)) (now (marks .entry)) (now (objectors .entry)) (now (targets .entry)) (now (labels .entry)) (now (lengths .entry)) → ListingWritten R (now (room .entry)) a (now (room .exit))) ⌝ }
+{
+    let size = listing::size(numbers, marks, objectors, targets, labels, lengths);
+    if room.len() < size {
+        return Answer::Refused(Refusal::Room);
+    }
+    listing::write(numbers, marks, objectors, targets, labels, lengths, room);
+    Answer::Given(size as u32)
+}
+
+// Writes the listing of the n statements and m objections that rooms begin with.
+fn list_rooms(
+    numbers: &[u32],
+    marks: &[u8],
+    objectors: &[u32],
+    targets: &[u32],
+    labels: &[u8],
+    lengths: &[u16],
+    n: usize,
+    m: usize,
+    room: &mut [u8],
+) -> Answer
+    requires { ⌜ Spacious (now numbers) (now marks) (now objectors) (now targets) ⌝ }
+    requires { ⌜ (1024 ≤ length (now labels)) × (1024 ≤ length (now lengths)) ⌝ }
+    requires { ⌜ ((text : List ℕ) × SolvedText text (now numbers) (now marks) (now objectors) (now targets) (now labels) (now lengths) (Whole n m)) ⌝ }
+    ensures { λ a. ⌜ ((text : List ℕ) → SolvedText text (now (numbers .entry)) (now (marks .entry)) (now (objectors .entry)) (now (targets .entry)) (now (labels .entry)) (now (lengths .entry)) (Whole n m) → TextListing text (now (room .entry)) a (now (room .exit))) ⌝ }
+{
+    write_listing(
+        &numbers[..n],
+        &marks[..n],
+        &objectors[..m],
+        &targets[..m],
+        labels,
+        lengths,
+        room,
+    )
+}
+
+// The listing.
+pub fn text_listing(text: &[u8], room: &mut [u8]) -> Answer
+    ensures { λ a. ⌜ TextListing (now (text .entry)) (now (room .entry)) a (now (room .exit)) ⌝ }
+{
+    let mut numbers = [0u32; 1024];
+    let mut marks = [0u8; 1024];
+    let mut objectors = [0u32; 4096];
+    let mut targets = [0u32; 4096];
+    let mut labels = [0u8; 1024];
+    let mut lengths = [0u16; 1024];
+    let reading = solve_text(
+        text,
+        &mut numbers,
+        &mut marks,
+        &mut objectors,
+        &mut targets,
+        &mut labels,
+        &mut lengths,
+    );
+    match reading {
+        Reading::Refused(refusal) => Answer::Refused(refusal),
+        Reading::Whole(n, m) => list_rooms(
+            &numbers,
+            &marks,
+            &objectors,
+            &targets,
+            &labels,
+            &lengths,
+            n,
+            m,
+            room,
+        ),
     }
 }

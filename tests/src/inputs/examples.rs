@@ -1,114 +1,95 @@
-//! The examples of document 01, with the verdicts and kinds that 01 itself gives. Statements are
-//! told by the numbers that stand there, so that a reader can hold a line against 01 by eye.
+//! The examples at the edges of document 01 that are short enough to be written out: the text, and
+//! what 01 says of it as the program prints it. Tabs are shown as spaces, as they are in 01.
 
-use super::lists::Lists;
+use super::text::Text;
 
-/// One example. A statement is its number, mark and verdict, as "101 R open -"; an objection is its
-/// two numbers, kind and length, as "104 103 felling 1".
 pub struct Example {
     pub name: &'static str,
-    pub statements: &'static [&'static str],
-    pub objections: &'static [&'static str],
+    text: &'static str,
+    print: &'static str,
 }
 
-pub const EXAMPLES: [Example; 12] = [
-    example("empty", &[], &[]),
-    example("one read", &["1 R stands 0"], &[]),
-    example("one unread", &["1 U open -"], &[]),
+pub const EXAMPLES: [Example; 18] = [
+    example("empty", "", "REGISTER 0 0\n"),
+    example("one read", "S 1 R\n", "REGISTER 1 0\n1 stands 0\n"),
+    example("one unread", "S 1 U\n", "REGISTER 1 0\n1 open -\n"),
     example(
         "one read that objects to itself",
-        &["1 R open -"],
-        &["1 1 standoff -"],
+        "S 1 R\nO 1 1\n",
+        "REGISTER 1 1\n1 open -\n1 1 standoff -\n",
     ),
     example(
         "two that object to each other",
-        &["1 R open -", "2 R open -"],
-        &["1 2 standoff -", "2 1 standoff -"],
+        "S 1 R\nS 2 R\nO 1 2\nO 2 1\n",
+        "REGISTER 2 2\n1 open -\n2 open -\n1 2 standoff -\n2 1 standoff -\n",
     ),
     example(
         "a circle of three",
-        &["1 R open -", "2 R open -", "3 R open -"],
-        &["1 2 standoff -", "2 3 standoff -", "3 1 standoff -"],
+        "S 1 R\nS 2 R\nS 3 R\nO 1 2\nO 2 3\nO 3 1\n",
+        "REGISTER 3 3\n1 open -\n2 open -\n3 open -\n\
+         1 2 standoff -\n2 3 standoff -\n3 1 standoff -\n",
     ),
     example(
         "the listing",
-        &[
-            "101 R open -",
-            "102 R open -",
-            "103 R falls 1",
-            "104 R stands 0",
-        ],
-        &[
-            "102 101 standoff -",
-            "101 102 standoff -",
-            "103 102 idle -",
-            "104 103 felling 1",
-        ],
+        "S 101 R\nS 102 R\nS 103 R\nS 104 R\nO 102 101\nO 101 102\nO 103 102\nO 104 103\n",
+        "REGISTER 4 4\n101 open -\n102 open -\n103 falls 1\n104 stands 0\n\
+         102 101 standoff -\n101 102 standoff -\n103 102 idle -\n104 103 felling 1\n",
     ),
     example(
         "an unread one falls, and one stands by it",
-        &["1 U falls 1", "2 R stands 0", "3 R stands 2"],
-        &["2 1 felling 1", "1 3 delaying 2"],
+        "S 1 U\nS 2 R\nS 3 R\nO 2 1\nO 1 3\n",
+        "REGISTER 3 2\n1 falls 1\n2 stands 0\n3 stands 2\n2 1 felling 1\n1 3 delaying 2\n",
     ),
     example(
         "an unread one objects",
-        &["1 U open -", "2 R open -"],
-        &["1 2 standoff -"],
+        "S 1 U\nS 2 R\nO 1 2\n",
+        "REGISTER 2 1\n1 open -\n2 open -\n1 2 standoff -\n",
     ),
     example(
         "a chain down to an unread one",
-        &["1 U falls 3", "2 R stands 2", "3 R falls 1", "4 R stands 0"],
-        &["4 3 felling 1", "3 2 delaying 2", "2 1 felling 3"],
+        "S 1 U\nS 2 R\nS 3 R\nS 4 R\nO 4 3\nO 3 2\nO 2 1\n",
+        "REGISTER 4 3\n1 falls 3\n2 stands 2\n3 falls 1\n4 stands 0\n\
+         4 3 felling 1\n3 2 delaying 2\n2 1 felling 3\n",
     ),
     example(
         "a finish of that chain",
-        &["1 R falls 1", "2 R stands 2", "3 R falls 1", "4 R stands 0"],
-        &[
-            "4 3 felling 1",
-            "3 2 delaying 2",
-            "2 1 felling 3",
-            "4 1 felling 1",
-        ],
+        "S 1 R\nS 2 R\nS 3 R\nS 4 R\nO 4 3\nO 3 2\nO 2 1\nO 4 1\n",
+        "REGISTER 4 4\n1 falls 1\n2 stands 2\n3 falls 1\n4 stands 0\n\
+         4 3 felling 1\n3 2 delaying 2\n2 1 felling 3\n4 1 felling 1\n",
     ),
     example(
         "felling in three turns",
-        &["5 R stands 0", "6 R falls 1", "7 R stands 2"],
-        &["5 6 felling 1", "6 7 delaying 2", "7 6 felling 3"],
+        "S 5 R\nS 6 R\nS 7 R\nO 5 6\nO 6 7\nO 7 6\n",
+        "REGISTER 3 3\n5 stands 0\n6 falls 1\n7 stands 2\n\
+         5 6 felling 1\n6 7 delaying 2\n7 6 felling 3\n",
     ),
+    example(
+        "the greatest number",
+        "S 99999999 R\nO 99999999 99999999\n",
+        "REGISTER 1 1\n99999999 open -\n99999999 99999999 standoff -\n",
+    ),
+    example("number 0", "S 0 R\n", "REFUSED 3 1\n"),
+    example("number 07", "S 7 R\nS 07 R\n", "REFUSED 3 2\n"),
+    example("nine digits", "S 100000000 R\n", "REFUSED 3 1\n"),
+    example(
+        "nine digits that object",
+        "S 1 R\nO 1 1\nO 000000001 1\n",
+        "REFUSED 3 3\n",
+    ),
+    example("a blank line", "S 1 R\n\nS 2 R\n", "REFUSED 3 2\n"),
 ];
 
-const fn example(
-    name: &'static str,
-    statements: &'static [&'static str],
-    objections: &'static [&'static str],
-) -> Example {
-    Example {
-        name,
-        statements,
-        objections,
-    }
+const fn example(name: &'static str, text: &'static str, print: &'static str) -> Example {
+    Example { name, text, print }
 }
 
 impl Example {
-    /// The register alone, as lists.
-    pub fn lists(&self) -> Lists {
-        let words = |line: &'static str| line.split(' ').collect::<Vec<_>>();
-        let statements: Vec<_> = self.statements.iter().map(|line| words(line)).collect();
-        let place = |number: &str| -> u32 {
-            let place = statements.iter().position(|words| words[0] == number);
-            place.expect("a listed number") as u32
-        };
-        let marks = statements.iter().map(|words| u8::from(words[1] == "U"));
-        let pair = |line: &&'static str| (place(words(line)[0]), place(words(line)[1]));
-        let pairs: Vec<_> = self.objections.iter().map(pair).collect();
-        Lists::new(marks.collect(), &pairs)
+    pub fn text(&self) -> Text {
+        Text(self.text.replace(' ', "\t").into_bytes())
     }
 
-    /// The answers in 01's words: each statement's label and length, then each objection's kind and
-    /// length.
-    pub fn answers(&self) -> Vec<String> {
-        let last_two = |line: &&str| line.split(' ').skip(2).collect::<Vec<_>>().join(" ");
-        let lines = self.statements.iter().chain(self.objections);
-        lines.map(last_two).collect()
+    /// What the program prints.
+    pub fn print(&self) -> Vec<u8> {
+        self.print.replace(' ', "\t").into_bytes()
     }
 }

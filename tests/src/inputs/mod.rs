@@ -1,9 +1,11 @@
 //! What is handed to the library: small registers in full, random ones of many shapes, the examples
-//! of document 01, all of them as lists or as texts, damaged texts, and rooms of many lengths.
+//! of document 01 and of the folder examples, as lists and as texts; damaged texts; and rooms of
+//! many lengths.
 
 pub mod damage;
 pub mod draft;
 pub mod examples;
+pub mod files;
 pub mod lists;
 pub mod numbers;
 pub mod page;

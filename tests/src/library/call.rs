@@ -37,9 +37,10 @@ pub const LIST_CALLS: [ListCall; 5] = [
     list_call("moves_lengths", 4, Form::Moves, Question::Lengths),
 ];
 
-pub const TEXT_CALLS: [TextCall; 2] = [
+pub const TEXT_CALLS: [TextCall; 3] = [
     text_call("text_labels", 20, Question::Labels),
     text_call("text_lengths", 21, Question::Lengths),
+    text_call("listing", 22, Question::Listing),
 ];
 
 const fn list_call(name: &'static str, number: u32, form: Form, question: Question) -> ListCall {
@@ -65,6 +66,7 @@ pub fn room_widths(question: Question) -> &'static [usize] {
         Question::Labels => &[1],
         Question::Lengths => &[2],
         Question::Kinds => &[1, 2],
+        Question::Listing => &[1],
     }
 }
 
@@ -77,8 +79,8 @@ impl ListCall {
     /// How many entries the answer has in each room, if these lists are accepted.
     pub fn answer_length(&self, lists: &Lists) -> usize {
         match self.question {
-            Question::Labels | Question::Lengths => lists.marks.len(),
             Question::Kinds => lists.objectors.len(),
+            _ => lists.marks.len(),
         }
     }
 

@@ -2,8 +2,9 @@
 //! every length of the rooms.
 
 use super::refusals::{self, Refusal, SHORT_ROOM};
+use super::register::{self, Register};
 use super::verdict::Verdict;
-use super::{kinds, register, rounds};
+use super::{kinds, listing, rounds};
 use crate::inputs::lists::Lists;
 use crate::inputs::text::Text;
 
@@ -13,12 +14,14 @@ pub enum Question {
     Labels,
     Lengths,
     Kinds,
+    Listing,
 }
 
-/// The answer to one input. The verdicts and kinds are empty where the input is refused.
+/// The answer to one input. All but the refusal is empty where there is one.
 #[derive(Default)]
 pub struct Expected {
     pub refusal: Option<Refusal>,
+    pub register: Register,
     pub verdicts: Vec<Verdict>,
     pub kinds: Vec<(u32, u32)>,
 }
@@ -34,14 +37,14 @@ impl Expected {
     pub fn of_lists(lists: &Lists) -> Self {
         match refusals::of_lists(lists) {
             Some(refusal) => Expected::refused(refusal),
-            None => Expected::accepted(lists),
+            None => Expected::accepted(Register::of_places(lists)),
         }
     }
 
     pub fn of_text(text: &Text) -> Self {
         match register::read(&text.0) {
             Err(refusal) => Expected::refused(refusal),
-            Ok(register) => Expected::accepted(&register.lists),
+            Ok(register) => Expected::accepted(register),
         }
     }
 
@@ -52,14 +55,15 @@ impl Expected {
         }
     }
 
-    fn accepted(lists: &Lists) -> Self {
-        let verdicts = rounds::verdicts(lists);
+    fn accepted(register: Register) -> Self {
+        let verdicts = rounds::verdicts(&register.lists);
         let kind = |(objector, target): (usize, usize)| -> (u32, u32) {
             kinds::kind(verdicts[target], verdicts[objector])
         };
-        let kinds = lists.objections().map(kind).collect();
+        let kinds = register.lists.objections().map(kind).collect();
         Expected {
             refusal: None,
+            register,
             verdicts,
             kinds,
         }
@@ -108,6 +112,10 @@ impl Expected {
             Question::Kinds => {
                 let (kinds, lengths) = self.kinds.iter().copied().unzip();
                 vec![kinds, lengths]
+            }
+            Question::Listing => {
+                let bytes = listing::print(self).into_iter();
+                vec![bytes.map(u32::from).collect()]
             }
         }
     }

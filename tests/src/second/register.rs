@@ -9,10 +9,22 @@ use std::collections::HashMap;
 
 pub const MOST_BYTES: usize = 65_535;
 
-/// An accepted text: the numbers of its statements in listed order, and the register by places.
+/// A register that was accepted: the numbers of its statements in listed order, and the rest by
+/// places.
+#[derive(Default)]
 pub struct Register {
     pub numbers: Vec<u32>,
     pub lists: Lists,
+}
+
+impl Register {
+    /// Of lists, in which statements are told by their places.
+    pub fn of_places(lists: &Lists) -> Self {
+        Register {
+            numbers: (0..lists.marks.len() as u32).collect(),
+            lists: lists.clone(),
+        }
+    }
 }
 
 /// The lines of a text, and on which of them each number and each pair comes first.

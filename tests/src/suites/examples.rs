@@ -1,49 +1,84 @@
-//! Every example of document 01 that is a register within the limits: the second solver must give
-//! 01's own words, and the library what the second solver gives.
+//! Every example at the edges of document 01, and every file of the folder examples: the second
+//! solver must print what is written out, and the library must give what the second solver gives,
+//! for texts and for lists.
 
 use super::Test;
 use crate::inputs::examples::{Example, EXAMPLES};
+use crate::inputs::files::{File, FILES};
+use crate::inputs::text::Text;
 use crate::library::session::Session;
 use crate::second::expected::Expected;
-use crate::second::verdict::NO_LENGTH;
-
-const LABELS: [&str; 3] = ["open", "stands", "falls"];
-const KINDS: [&str; 4] = ["idle", "felling", "delaying", "standoff"];
+use crate::second::listing;
 
 pub fn tests() -> Vec<Test> {
     let test = |example: &'static Example| {
         let name = format!("example of 01: {}", example.name);
-        Test::new(name, move |session| hold(session, example))
+        Test::new(name, move |session| {
+            hold(session, &example.text(), &example.print())
+        })
     };
-    EXAMPLES.iter().map(test).collect()
+    let large = [
+        Test::new("example of 01: 1,024 statements", most_statements),
+        Test::new("example of 01: 4,096 objections", most_objections),
+    ];
+    let file = |file: &'static File| {
+        let name = format!("example file: {}", file.name);
+        Test::new(name, move |session| {
+            hold(session, &Text(file.text.to_vec()), file.listing)
+        })
+    };
+    let small = EXAMPLES.iter().map(test);
+    let files = FILES.iter().map(file);
+    small.chain(large).chain(files).collect()
 }
 
-fn hold(session: &mut Session, example: &Example) -> Result<(), String> {
-    let lists = example.lists();
-    let words = in_words(&Expected::of_lists(&lists));
+/// Holds every call on the text, and on its register as lists.
+fn hold(session: &mut Session, text: &Text, print: &[u8]) -> Result<(), String> {
+    let expected = Expected::of_text(text);
+    let printed = listing::print(&expected);
     session.count();
-    if words != example.answers() {
+    if printed != print {
+        let (printed, print) = (printed.escape_ascii(), print.escape_ascii());
         return Err(format!(
-            "the second solver says {words:?}, 01 {:?}",
-            example.answers()
+            "the second solver prints {printed} and not {print}"
         ));
     }
-    session.hold_lists(&lists)
+    session.hold_text(text)?;
+    match expected.refusal {
+        None => session.hold_lists(&expected.register.lists),
+        Some(_) => Ok(()),
+    }
 }
 
-/// Labels and lengths of the statements, then kinds and lengths of the objections, as 01 has them.
-fn in_words(expected: &Expected) -> Vec<String> {
-    let length = |length: u32| match length {
-        NO_LENGTH => "-".to_string(),
-        turns => turns.to_string(),
-    };
-    let statements = expected.verdicts.iter().map(|verdict| {
-        let label = LABELS[verdict.label() as usize];
-        format!("{label} {}", length(verdict.length()))
-    });
-    let objections = expected
-        .kinds
-        .iter()
-        .map(|(kind, turns)| format!("{} {}", KINDS[*kind as usize], length(*turns)));
-    statements.chain(objections).collect()
+/// So many statement lines, all read.
+fn statements(count: u32) -> String {
+    let line = |number: u32| format!("S\t{number}\tR\n");
+    (1..=count).map(line).collect()
+}
+
+/// Statements that nobody objects to all stand.
+fn most_statements(session: &mut Session) -> Result<(), String> {
+    let stand = |number: u32| format!("{number}\tstands\t0\n");
+    let stands: String = (1..=1_024).map(stand).collect();
+    let listing = format!("REGISTER\t1024\t0\n{stands}");
+    let text = Text(statements(1_024).into_bytes());
+    hold(session, &text, listing.as_bytes())?;
+    let text = Text(statements(1_025).into_bytes());
+    hold(session, &text, b"REFUSED\t6\t1025\n")
+}
+
+/// Of 64 statements each objects to each, itself too, and all is open. A 65th brings one more.
+fn most_objections(session: &mut Session) -> Result<(), String> {
+    let pairs = || (1..=64).flat_map(|objector| (1..=64).map(move |target| (objector, target)));
+    let objection = |(objector, target)| format!("O\t{objector}\t{target}\n");
+    let objections: String = pairs().map(objection).collect();
+    let text = Text((statements(64) + &objections).into_bytes());
+    let open = |number: u32| format!("{number}\topen\t-\n");
+    let opens: String = (1..=64).map(open).collect();
+    let standoff = |(objector, target)| format!("{objector}\t{target}\tstandoff\t-\n");
+    let standoffs: String = pairs().map(standoff).collect();
+    let listing = format!("REGISTER\t64\t4096\n{opens}{standoffs}");
+    hold(session, &text, listing.as_bytes())?;
+    let text = Text((statements(65) + &objections + "O\t65\t1\n").into_bytes());
+    hold(session, &text, b"REFUSED\t9\t4162\n")
 }

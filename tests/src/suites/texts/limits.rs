@@ -35,7 +35,7 @@ fn sound(bytes: usize) -> Text {
     const STATEMENTS: usize = 1_000;
     let objections = (bytes - 13 * STATEMENTS).div_ceil(20);
     let mut over = 13 * STATEMENTS + 20 * objections - bytes;
-    let number = |place: usize| 10_000_000 + 37 * place;
+    let number = |place: usize| 10_000_000 * (1 + place % 9) + 37 * place;
     let mut lines = Vec::new();
     for place in 0..STATEMENTS {
         let shorter = over.min(7);

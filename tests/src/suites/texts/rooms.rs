@@ -26,11 +26,12 @@ pub fn tests() -> Vec<Test> {
 
 fn small(session: &mut Session, call: &TextCall) -> Result<(), String> {
     let mut random = Random::for_test("rooms of small texts");
-    hold_up_to(session, call, &Text::default(), 3)?;
+    hold_up_to(session, call, &Text::default(), 16)?;
     for statements in 1..=8 {
         for objections in [0, 1, statements, statements * statements] {
             let text = Page::random(&mut random, statements, objections).text();
-            hold_up_to(session, call, &text, statements + 3)?;
+            let right = Expected::of_text(&text).answer_length(call.question);
+            hold_up_to(session, call, &text, right + 3)?;
         }
     }
     Ok(())
@@ -40,8 +41,9 @@ fn at_limits(session: &mut Session, call: &TextCall) -> Result<(), String> {
     let mut random = Random::for_test("rooms of large texts");
     for (statements, objections) in [(1_024, 300), (100, 4_096), (1_024, 4_096)] {
         let text = Page::random(&mut random, statements, objections).text();
+        let right = Expected::of_text(&text).answer_length(call.question);
         // 65,536 would be an empty room if it were cut down to 16 bits
-        let lengths = [0, 1, statements - 1, statements, statements + 1, 65_536];
+        let lengths = [0, 1, right - 1, right, right + 1, 65_536, 131_072];
         hold_each(session, call, &text, lengths.map(Room::Of).as_slice())?;
     }
     Ok(())

@@ -1,0 +1,110 @@
+/* Draws the registers that are timed: of several shapes, at an eighth, a quarter, a half and all of
+ * the limits. Every run draws the same ones. */
+#include "registers.h"
+
+#include <stdio.h>
+#include <string.h>
+
+struct drawn drawn;
+
+/* xorshift64 with a fixed start */
+static size_t below(size_t bound) {
+    static uint64_t state = 88172645463325252u;
+    state ^= state << 13;
+    state ^= state >> 7;
+    state ^= state << 17;
+    return (size_t)(state % bound);
+}
+
+static void add(size_t objector, size_t target) {
+    if (drawn.pairs == drawn.most_pairs || drawn.taken[objector][target])
+        return;
+    drawn.taken[objector][target] = 1;
+    drawn.objectors[drawn.pairs] = (uint32_t)objector;
+    drawn.targets[drawn.pairs] = (uint32_t)target;
+    drawn.pairs++;
+}
+
+static void add_random(void) {
+    while (drawn.pairs < drawn.most_pairs)
+        add(below(drawn.statements), below(drawn.statements));
+}
+
+static void draw_random(void) {
+    for (size_t x = 0; x < drawn.statements; x++)
+        drawn.marks[x] = below(8) == 0 ? BATQEMULO_UNREAD : BATQEMULO_READ;
+    add_random();
+}
+
+/* The longest lengths; a statement fewer pairs than statements. */
+static void draw_chain(void) {
+    for (size_t target = 0; target + 1 < drawn.statements; target++)
+        add(target + 1, target);
+}
+
+/* As many statements as can all object to each one before them; the others have no objections. */
+static void draw_dense(void) {
+    for (size_t objector = 1; drawn.pairs + objector <= drawn.most_pairs; objector++)
+        for (size_t target = 0; target < objector; target++)
+            add(objector, target);
+}
+
+/* Four statements against all others. */
+static void draw_star(void) {
+    for (size_t objector = 0; objector < 4; objector++)
+        for (size_t target = 4; target < drawn.statements; target++)
+            add(objector, target);
+}
+
+static void draw_unread(void) {
+    memset(drawn.marks, BATQEMULO_UNREAD, drawn.statements);
+    add_random();
+}
+
+static const struct {
+    const char *name;
+    void (*draw)(void);
+} shapes[SHAPES] = {
+    {"random", draw_random}, {"chain", draw_chain},       {"dense", draw_dense},
+    {"star", draw_star},     {"all unread", draw_unread},
+};
+
+/* The statements at each size; there may be four times as many pairs. */
+static const size_t sizes[SIZES] = {128, 256, 512, 1024};
+
+/* Four digits, with which the largest register fits a text, and in no order. 8,999 is a prime, so
+ * that no number comes twice. */
+static unsigned number(size_t place) {
+    return 1000 + (unsigned)(place * 7919 % 8999);
+}
+
+static void append(const char *line) {
+    size_t length = strlen(line);
+    memcpy(drawn.text + drawn.bytes, line, length);
+    drawn.bytes += length;
+}
+
+static void write_text(void) {
+    char line[24];
+    for (size_t x = 0; x < drawn.statements; x++) {
+        snprintf(line, sizeof line, "S\t%u\t%c\n", number(x), drawn.marks[x] ? 'U' : 'R');
+        append(line);
+    }
+    for (size_t i = 0; i < drawn.pairs; i++) {
+        snprintf(line, sizeof line, "O\t%u\t%u\n", number(drawn.objectors[i]),
+                 number(drawn.targets[i]));
+        append(line);
+    }
+}
+
+const char *shape_name(size_t shape) {
+    return shapes[shape].name;
+}
+
+void draw(size_t shape, size_t size) {
+    memset(&drawn, 0, sizeof drawn);
+    drawn.statements = sizes[size];
+    drawn.most_pairs = 4 * sizes[size];
+    shapes[shape].draw();
+    write_text();
+}

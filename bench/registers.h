@@ -1,0 +1,29 @@
+/* The registers that are timed. One at a time is drawn, as lists and as a text. */
+#ifndef REGISTERS_H
+#define REGISTERS_H
+
+#include "batqemulo.h"
+
+/* At every size there are twice the statements of the size before, the last being the limit. */
+enum { SIZES = 4, SHAPES = 5 };
+
+struct drawn {
+    size_t statements;
+    size_t pairs;
+    size_t most_pairs;
+    uint8_t marks[BATQEMULO_MAX_STATEMENTS];
+    uint32_t objectors[BATQEMULO_MAX_OBJECTIONS];
+    uint32_t targets[BATQEMULO_MAX_OBJECTIONS];
+    uint8_t text[BATQEMULO_MAX_TEXT_BYTES];
+    size_t bytes;
+    /* whether a pair is there, so that none is there twice */
+    uint8_t taken[BATQEMULO_MAX_STATEMENTS][BATQEMULO_MAX_STATEMENTS];
+};
+
+extern struct drawn drawn;
+
+const char *shape_name(size_t shape);
+
+void draw(size_t shape, size_t size);
+
+#endif

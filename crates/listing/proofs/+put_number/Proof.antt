@@ -1,0 +1,131 @@
+-- `put_number` puts the digits of a tenth first, and then the last digit.
+use mathlib.Core.List.{[], _∷_}
+use Prim.Native.Nat.{ℕ, _+_, _/_, _%_, _<_}
+use native.Mathlib.Omega.{arith}
+use lib.ListN.{length-set}
+use Rattle.line.specs.Number.{decimal}
+use Rattle.line.proofs.Number.{decimal-one, decimal-tenth}
+use Rattle.listing.proofs.Digits.{one-digit, digit-more}
+use Rattle.listing.proofs.Room.{put-one, put-more}
+use borrow.Author.Needs.{needs}
+use borrow.Fn.Kinds.{In}
+use borrow.Fn.PlainCycle.{Measures, is, falls, and}
+use Rattle.listing.proofs.put_number.Reads as put-number
+use Rattle.listing.proofs.put_number.Kinds as put-number-kinds
+use Rattle.listing.proofs.+put_number.Lts-put_number as put-number-lts
+use Rattle.listing.proofs.+put_number.{statement}
+use Rattle.listing.proofs.+put_number.Tie.{close}
+
+abbrev μ-put-number : Measures 1 put-number-kinds.ps ℕ
+μ-put-number κs a = a .1 .1 .0
+
+abbrev put-number-at : ℕ → In 1 put-number-kinds.ps
+put-number-at t =
+    and 1 put-number-kinds.ps (is 1 put-number-kinds.ps μ-put-number t) put-number.Pre
+
+abbrev put-number-below : ℕ → In 1 put-number-kinds.ps
+put-number-below t =
+    and 1 put-number-kinds.ps (falls 1 put-number-kinds.ps _<_ μ-put-number t) put-number.Pre
+
+put-number-add-room :
+    (t : ℕ) →
+    put-number-lts.Need-add-room
+    (put-number-below t, put-number.Post)
+    (put-number-at t)
+    put-number.Post
+put-number-add-room t c = search needs
+
+put-number-cast-room : (t : ℕ) → put-number-lts.Need-cast-room (
+  put-number-below t,
+  put-number.Post,
+) (put-number-at t) put-number.Post
+put-number-cast-room t c = search needs
+
+put-number-slice-write-room : (t : ℕ) → put-number-lts.Need-slice-write-room (
+  put-number-below t,
+  put-number.Post,
+) (put-number-at t) put-number.Post
+put-number-slice-write-room t c = omega (arith, one-digit (c .before .before .args .number) (omega arith))
+
+put-number-add-result : (t : ℕ) → put-number-lts.Need-add-result (
+  put-number-below t,
+  put-number.Post,
+) (put-number-at t) put-number.Post
+put-number-add-result t c = omega (arith, one-digit (c .before .before .args .number) (omega arith))
+
+put-number-same-length : (t : ℕ) → put-number-lts.Need-same-length (
+  put-number-below t,
+  put-number.Post,
+) (put-number-at t) put-number.Post
+put-number-same-length t c = simp length-set
+
+put-number-returns :
+    (t : ℕ) →
+    put-number-lts.Need-returns
+    (put-number-below t, put-number.Post)
+    (put-number-at t)
+    put-number.Post
+put-number-returns t c = rw (decimal-one (c .before .before .args .number) (omega arith)) (put-one (c .before .before .args .room .now) (c .before .before .args .at) (48 + c .before .before .args .number) (omega (arith, one-digit (c .before .before .args .number) (omega arith))))
+
+put-number-put-number-requires : (t : ℕ) → put-number-lts.Need-put-number-requires (
+  put-number-below t,
+  put-number.Post,
+) (put-number-at t) put-number.Post
+put-number-put-number-requires t c κs = (omega arith, omega (arith, digit-more (c .before .before .before .args .number) (omega arith) (omega arith)))
+
+put-number-add-room-2 : (t : ℕ) → put-number-lts.Need-add-room-2 (
+  put-number-below t,
+  put-number.Post,
+) (put-number-at t) put-number.Post
+put-number-add-room-2 t c = search needs
+
+put-number-cast-room-2 : (t : ℕ) → put-number-lts.Need-cast-room-2 (
+  put-number-below t,
+  put-number.Post,
+) (put-number-at t) put-number.Post
+put-number-cast-room-2 t c = search needs
+
+put-number-slice-write-room-2 : (t : ℕ) → put-number-lts.Need-slice-write-room-2 (
+  put-number-below t,
+  put-number.Post,
+) (put-number-at t) put-number.Post
+put-number-slice-write-room-2 t c = omega (arith, digit-more (c .before .before .before .before .before .before .args .number) (omega arith) (omega arith), c .before .before .put-number .kept .0, c .before .before .put-number .ensures .ends)
+
+put-number-add-result-2 : (t : ℕ) → put-number-lts.Need-add-result-2 (
+  put-number-below t,
+  put-number.Post,
+) (put-number-at t) put-number.Post
+put-number-add-result-2 t c = omega (arith, digit-more (c .before .before .before .before .before .before .args .number) (omega arith) (omega arith), c .before .before .put-number .ensures .ends)
+
+put-number-same-length-2 : (t : ℕ) → put-number-lts.Need-same-length-2 (
+  put-number-below t,
+  put-number.Post,
+) (put-number-at t) put-number.Post
+put-number-same-length-2 t c = simp length-set (c .before .before .put-number .kept .0)
+
+put-number-returns-2 : (t : ℕ) → put-number-lts.Need-returns-2 (
+  put-number-below t,
+  put-number.Post,
+) (put-number-at t) put-number.Post
+put-number-returns-2 t c = rw (decimal-tenth (c .before .before .before .before .before .before .args .number) (omega arith) (omega arith)) (put-more (c .before .before .before .before .before .before .args .room .now) (c .before .before .before .before .before .before .args .at) (decimal (c .before .before .before .before .before .before .args .number / 10)) (omega (arith, digit-more (c .before .before .before .before .before .before .args .number) (omega arith) (omega arith))) ((48 + c .before .before .before .before .before .before .args .number % 10) ∷ []) (c .before .before .put-number .ensures) (put-one _ (c .before .before .put-number .result) (48 + c .before .before .before .before .before .before .args .number % 10) (put-number-slice-write-room-2 t c)))
+
+pub +put-number-spec : {M : Type 1} → statement M
++put-number-spec = close μ-put-number λ t. put-number-lts.spec (
+  put-number-below t,
+  put-number.Post,
+)
+    (put-number-at t)
+    put-number.Post
+    (put-number-add-room t)
+    (put-number-cast-room t)
+    (put-number-slice-write-room t)
+    (put-number-add-result t)
+    (put-number-same-length t)
+    (put-number-returns t)
+    (put-number-put-number-requires t)
+    (put-number-add-room-2 t)
+    (put-number-cast-room-2 t)
+    (put-number-slice-write-room-2 t)
+    (put-number-add-result-2 t)
+    (put-number-same-length-2 t)
+    (put-number-returns-2 t)

@@ -1,0 +1,75 @@
+-- `put_statements` puts row after row. The invariant: the rows passed are in the room.
+use mathlib.Core.Path.{_≡_, refl, ap, _∙_, subst}
+use Prim.Native.Nat.{_+_, _-_, _≤_}
+use native.Mathlib.Omega.{arith}
+use lib.ListN.{length}
+use Rattle.listing.specs.Room.{Put, rowsTo, statementAt}
+use Rattle.listing.proofs.Room.{put-none}
+use Rattle.listing.proofs.Rows.{no-rows, rows-longer, rows-fewer, statements-all}
+use Rattle.listing.proofs.Puts.{row-put}
+use borrow.Author.Needs.{needs}
+use Rattle.listing.proofs.put_statements.Statement.{statement}
+use Rattle.listing.proofs.put_statements.Tie as tie
+
+abbrev Inv-loop : tie.InvT-loop
+Inv-loop room₀ at numbers labels lengths end₀ x₀ room end x =
+    (x ≤ length numbers) × (length room ≡ length room₀) × Put room₀ at (rowsTo x (statementAt numbers labels lengths)) end room
+
+abbrev μ-loop : tie.MeasureT-loop
+μ-loop room₀ at numbers labels lengths end₀ x₀ room end x =
+    length numbers - x
+
+loop-holds : tie.Need-loop-holds Inv-loop μ-loop
+loop-holds c = (search needs, search needs, rw (no-rows (statementAt (c .before .before .before .before .args .numbers .now) (c .before .before .before .before .args .labels .now) (c .before .before .before .before .args .lengths .now))) (put-none (c .before .before .before .before .args .room .now) (c .before .before .before .before .args .at)))
+
+mul-put-statement : tie.Need-mul-put-statement Inv-loop μ-loop
+mul-put-statement c = search needs
+
+shared-slice-read-put-statement : tie.Need-shared-slice-read-put-statement Inv-loop μ-loop
+shared-slice-read-put-statement c = search needs
+
+shared-slice-read-put-statement-2 : tie.Need-shared-slice-read-put-statement-2 Inv-loop μ-loop
+shared-slice-read-put-statement-2 c = search needs
+
+mul-put-statement-2 : tie.Need-mul-put-statement-2 Inv-loop μ-loop
+mul-put-statement-2 c = search needs
+
+shared-slice-read-put-statement-3 : tie.Need-shared-slice-read-put-statement-3 Inv-loop μ-loop
+shared-slice-read-put-statement-3 c = search needs
+
+put-statement-requires : tie.Need-put-statement-requires Inv-loop μ-loop
+put-statement-requires c κs = omega (arith, c .before .before .before .before .before .loop .inv .2 .ends, rows-longer (statementAt (c .before .before .before .before .before .before .before .before .before .before .args .numbers .now) (c .before .before .before .before .before .before .before .before .before .before .args .labels .now) (c .before .before .before .before .before .before .before .before .before .before .args .lengths .now)) (c .before .before .before .before .before .loop .x), rows-fewer (statementAt (c .before .before .before .before .before .before .before .before .before .before .args .numbers .now) (c .before .before .before .before .before .before .before .before .before .before .args .labels .now) (c .before .before .before .before .before .before .before .before .before .before .args .lengths .now)) (c .before .before .before .before .before .loop .x + 1) (length (c .before .before .before .before .before .before .before .before .before .before .args .numbers .now)) (omega arith), ap length (statements-all (c .before .before .before .before .before .before .before .before .before .before .args .numbers .now) (c .before .before .before .before .before .before .before .before .before .before .args .labels .now) (c .before .before .before .before .before .before .before .before .before .before .args .lengths .now) (length (c .before .before .before .before .before .before .before .before .before .before .args .numbers .now)) refl))
+
+add-x : tie.Need-add-x Inv-loop μ-loop
+add-x c = search needs
+
+loop-less : tie.Need-loop-less Inv-loop μ-loop
+loop-less c = search needs
+
+loop-again : tie.Need-loop-again Inv-loop μ-loop
+loop-again c = (search needs, c .before .before .put-statement .kept .0 ∙ c .before .before .before .before .before .before .before .before .loop .inv .1, row-put (c .before .before .before .before .before .before .before .before .before .before .before .before .before .args .room .now) (c .before .before .before .before .before .before .before .before .before .before .before .before .before .args .at) (statementAt (c .before .before .before .before .before .before .before .before .before .before .before .before .before .args .numbers .now) (c .before .before .before .before .before .before .before .before .before .before .before .before .before .args .labels .now) (c .before .before .before .before .before .before .before .before .before .before .before .before .before .args .lengths .now)) (c .before .before .before .before .before .before .before .before .loop .x) (omega (arith, rows-fewer (statementAt (c .before .before .before .before .before .before .before .before .before .before .before .before .before .args .numbers .now) (c .before .before .before .before .before .before .before .before .before .before .before .before .before .args .labels .now) (c .before .before .before .before .before .before .before .before .before .before .before .before .before .args .lengths .now)) (c .before .before .before .before .before .before .before .before .loop .x + 1) (length (c .before .before .before .before .before .before .before .before .before .before .before .before .before .args .numbers .now)) (omega arith), ap length (statements-all (c .before .before .before .before .before .before .before .before .before .before .before .before .before .args .numbers .now) (c .before .before .before .before .before .before .before .before .before .before .before .before .before .args .labels .now) (c .before .before .before .before .before .before .before .before .before .before .before .before .before .args .lengths .now) (length (c .before .before .before .before .before .before .before .before .before .before .before .before .before .args .numbers .now)) refl))) (c .before .before .before .before .before .before .before .before .loop .inv .2) refl (c .before .before .put-statement .ensures))
+
+same-length : tie.Need-same-length Inv-loop μ-loop
+same-length c = search needs
+
+returns : tie.Need-returns Inv-loop μ-loop
+returns c = subst (λ u. Put (c .before .before .before .before .before .before .args .room .now) (c .before .before .before .before .before .before .args .at) u (c .before .loop .end) (c .before .loop .room)) (statements-all (c .before .before .before .before .before .before .args .numbers .now) (c .before .before .before .before .before .before .args .labels .now) (c .before .before .before .before .before .before .args .lengths .now) (c .before .loop .x) (omega arith)) (c .before .loop .inv .2)
+
+pub put-statements-spec : {M : Type 1} → statement M
+put-statements-spec =
+    tie.close
+    (tie.spec
+    Inv-loop
+    μ-loop
+    loop-holds
+    mul-put-statement
+    shared-slice-read-put-statement
+    shared-slice-read-put-statement-2
+    mul-put-statement-2
+    shared-slice-read-put-statement-3
+    put-statement-requires
+    add-x
+    loop-less
+    loop-again
+    same-length
+    returns)

@@ -1,0 +1,62 @@
+-- `put_word` puts the bytes of the word one by one. The invariant: those passed are in the room.
+use mathlib.Core.Path.{_≡_}
+use Prim.Native.Nat.{_-_, _≤_}
+use native.Mathlib.Omega.{arith}
+use lib.ListN.{length, take, length-set}
+use lib.Seq.{length-take-le}
+use Rattle.listing.specs.Room.{Put}
+use Rattle.listing.proofs.Room.{put-none, put-next, put-all}
+use borrow.Author.Needs.{needs}
+use Rattle.listing.proofs.put_word.Statement.{statement}
+use Rattle.listing.proofs.put_word.Tie as tie
+
+abbrev Inv-loop : tie.InvT-loop
+Inv-loop room₀ at word end₀ i₀ room end i =
+    (i ≤ length word) × (length room ≡ length room₀) × Put room₀ at (take i word) end room
+
+abbrev μ-loop : tie.MeasureT-loop
+μ-loop room₀ at word end₀ i₀ room end i =
+    length word - i
+
+loop-holds : tie.Need-loop-holds Inv-loop μ-loop
+loop-holds c = (search needs, search needs, put-none (c .args .room .now) (c .args .at))
+
+shared-slice-read-room : tie.Need-shared-slice-read-room Inv-loop μ-loop
+shared-slice-read-room c = search needs
+
+slice-write-room : tie.Need-slice-write-room Inv-loop μ-loop
+slice-write-room c = omega (arith, c .before .before .loop .inv .2 .ends, length-take-le (c .before .before .loop .i) (c .before .before .before .args .word .now) (omega arith))
+
+add-end : tie.Need-add-end Inv-loop μ-loop
+add-end c = omega (arith, slice-write-room c)
+
+add-i : tie.Need-add-i Inv-loop μ-loop
+add-i c = search needs
+
+loop-less : tie.Need-loop-less Inv-loop μ-loop
+loop-less c = search needs
+
+loop-again : tie.Need-loop-again Inv-loop μ-loop
+loop-again c = (search needs, simp length-set (c .before .before .loop .inv .1), put-next (c .before .before .before .args .room .now) (c .before .before .before .args .at) (c .before .before .before .args .word .now) (c .before .before .before .pre) (c .before .before .loop .i) (c .before .before .loop .end) (c .before .before .loop .room) (c .before .before .loop .inv .2) (c .before .loop-test .taken) (slice-write-room c))
+
+same-length : tie.Need-same-length Inv-loop μ-loop
+same-length c = search needs
+
+returns : tie.Need-returns Inv-loop μ-loop
+returns c = put-all (c .before .before .args .room .now) (c .before .before .args .at) (c .before .before .args .word .now) (c .before .before .pre) (c .before .loop .i) (c .before .loop .end) (c .before .loop .room) (c .before .loop .inv .2) (c .loop-test .left)
+
+pub put-word-spec : {M : Type 1} → statement M
+put-word-spec =
+    tie.close
+    (tie.spec
+    Inv-loop
+    μ-loop
+    loop-holds
+    shared-slice-read-room
+    slice-write-room
+    add-end
+    add-i
+    loop-less
+    loop-again
+    same-length
+    returns)

@@ -1,0 +1,73 @@
+-- `statements_size` adds up the rows. The invariant: the total is the size of the rows passed.
+use mathlib.Core.Path.{_≡_, sym, ap}
+use Prim.Native.Nat.{_+_, _-_, _≤_}
+use native.Mathlib.Omega.{arith}
+use lib.ListN.{length}
+use Rattle.listing.specs.Room.{rowsTo, statementAt}
+use Rattle.listing.proofs.Rows.{no-rows, rows-longer, statements-small, statements-all}
+use borrow.Author.Needs.{needs}
+use Rattle.listing.proofs.statements_size.Statement.{statement}
+use Rattle.listing.proofs.statements_size.Tie as tie
+
+abbrev Inv-loop : tie.InvT-loop
+Inv-loop numbers labels lengths total₀ x₀ total x =
+    (x ≤ length numbers) × (total ≡ length (rowsTo x (statementAt numbers labels lengths)))
+
+abbrev μ-loop : tie.MeasureT-loop
+μ-loop numbers labels lengths total₀ x₀ total x =
+    length numbers - x
+
+loop-holds : tie.Need-loop-holds Inv-loop μ-loop
+loop-holds c = (search needs, sym (ap length (no-rows (statementAt (c .before .before .before .args .numbers .now) (c .before .before .before .args .labels .now) (c .before .before .before .args .lengths .now)))))
+
+mul-statement-size : tie.Need-mul-statement-size Inv-loop μ-loop
+mul-statement-size c = search needs
+
+shared-slice-read-statement-size : tie.Need-shared-slice-read-statement-size Inv-loop μ-loop
+shared-slice-read-statement-size c = search needs
+
+shared-slice-read-statement-size-2 : tie.Need-shared-slice-read-statement-size-2 Inv-loop μ-loop
+shared-slice-read-statement-size-2 c = search needs
+
+mul-statement-size-2 : tie.Need-mul-statement-size-2 Inv-loop μ-loop
+mul-statement-size-2 c = search needs
+
+shared-slice-read-statement-size-3 : tie.Need-shared-slice-read-statement-size-3 Inv-loop μ-loop
+shared-slice-read-statement-size-3 c = search needs
+
+statement-size-requires : tie.Need-statement-size-requires Inv-loop μ-loop
+statement-size-requires c κs = search needs
+
+add-total : tie.Need-add-total Inv-loop μ-loop
+add-total c = omega (arith, statements-small (c .before .before .before .before .before .before .before .before .before .args .numbers .now) (c .before .before .before .before .before .before .before .before .before .args .labels .now) (c .before .before .before .before .before .before .before .before .before .args .lengths .now) (c .before .before .before .before .before .loop .x + 1), rows-longer (statementAt (c .before .before .before .before .before .before .before .before .before .args .numbers .now) (c .before .before .before .before .before .before .before .before .before .args .labels .now) (c .before .before .before .before .before .before .before .before .before .args .lengths .now)) (c .before .before .before .before .before .loop .x))
+
+add-x : tie.Need-add-x Inv-loop μ-loop
+add-x c = search needs
+
+loop-less : tie.Need-loop-less Inv-loop μ-loop
+loop-less c = search needs
+
+loop-again : tie.Need-loop-again Inv-loop μ-loop
+loop-again c = (search needs, omega (arith, rows-longer (statementAt (c .before .before .before .before .before .before .before .before .before .args .numbers .now) (c .before .before .before .before .before .before .before .before .before .args .labels .now) (c .before .before .before .before .before .before .before .before .before .args .lengths .now)) (c .before .before .before .before .before .loop .x)))
+
+returns : tie.Need-returns Inv-loop μ-loop
+returns c = omega (arith, ap length (statements-all (c .before .before .before .before .before .args .numbers .now) (c .before .before .before .before .before .args .labels .now) (c .before .before .before .before .before .args .lengths .now) (c .before .loop .x) (omega arith)))
+
+pub statements-size-spec : {M : Type 1} → statement M
+statements-size-spec =
+    tie.close
+    (tie.spec
+    Inv-loop
+    μ-loop
+    loop-holds
+    mul-statement-size
+    shared-slice-read-statement-size
+    shared-slice-read-statement-size-2
+    mul-statement-size-2
+    shared-slice-read-statement-size-3
+    statement-size-requires
+    add-total
+    add-x
+    loop-less
+    loop-again
+    returns)

@@ -1,0 +1,24 @@
+-- `write_refusal`: the line of a refusal is short.
+use native.Mathlib.Omega.{arith}
+use Rattle.listing.specs.Listing.{refusedRow}
+use Rattle.listing.proofs.Rows.{refused-small}
+use Rattle.listing.proofs.Puts.{put-start}
+use borrow.Author.Needs.{needs}
+use Rattle.listing.proofs.write_refusal.Statement.{statement}
+use Rattle.listing.proofs.write_refusal.Tie as tie
+
+slice-aggregate-put-numbers : tie.Need-slice-aggregate-put-numbers
+slice-aggregate-put-numbers c = search needs
+
+put-numbers-requires : tie.Need-put-numbers-requires
+put-numbers-requires c κs = omega (arith, refused-small (c .before .before .before .args .number) (c .before .before .before .args .place))
+
+same-length : tie.Need-same-length
+same-length c = search needs
+
+returns : tie.Need-returns
+returns c = put-start (c .before .before .before .before .before .before .args .room .now) (refusedRow (c .before .before .before .before .before .before .args .number) (c .before .before .before .before .before .before .args .place)) (c .before .before .put-numbers .ensures)
+
+pub write-refusal-spec : {M : Type 1} → statement M
+write-refusal-spec =
+    tie.close (tie.spec slice-aggregate-put-numbers put-numbers-requires same-length returns)

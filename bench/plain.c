@@ -23,11 +23,6 @@ struct board {
     size_t queued;
 };
 
-static batqemulo_answer answer(uint32_t refusal, size_t value) {
-    batqemulo_answer given = {refusal, (uint32_t)value};
-    return given;
-}
-
 static size_t first_bad_mark(const uint8_t *marks, size_t statements) {
     size_t x = 0;
     while (x < statements && marks[x] <= BATQEMULO_UNREAD)
@@ -67,6 +62,18 @@ static batqemulo_answer check(const uint8_t *marks, size_t marks_len, const uint
     if (i < objectors_len)
         return answer(BATQEMULO_PLACE_OUTSIDE, i);
     return answer(BATQEMULO_ACCEPTED, 0);
+}
+
+batqemulo_answer plain_check(const uint8_t *marks, size_t marks_len, const uint32_t *objectors,
+                             size_t objectors_len, const uint32_t *targets, size_t targets_len) {
+    batqemulo_answer found =
+        check(marks, marks_len, objectors, objectors_len, targets, targets_len);
+    if (found.refusal != BATQEMULO_ACCEPTED)
+        return found;
+    size_t i = first_repeat(objectors, targets, objectors_len);
+    if (i < objectors_len)
+        return answer(BATQEMULO_OBJECTION_REPEATED, i);
+    return found;
 }
 
 /* Clears only what this register uses, then chains the pairs and counts the objectors. */
@@ -132,12 +139,9 @@ batqemulo_answer plain_pairs_labels(const uint8_t *marks, size_t marks_len,
                                     size_t labels_len) {
     uint16_t lengths[BATQEMULO_MAX_STATEMENTS];
     batqemulo_answer found =
-        check(marks, marks_len, objectors, objectors_len, targets, targets_len);
+        plain_check(marks, marks_len, objectors, objectors_len, targets, targets_len);
     if (found.refusal != BATQEMULO_ACCEPTED)
         return found;
-    size_t i = first_repeat(objectors, targets, objectors_len);
-    if (i < objectors_len)
-        return answer(BATQEMULO_OBJECTION_REPEATED, i);
     if (labels_len < marks_len)
         return answer(BATQEMULO_ROOM_TOO_SHORT, 0);
     plain_solve(marks, marks_len, objectors, targets, objectors_len, labels, lengths);

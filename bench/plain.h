@@ -5,11 +5,20 @@
 
 #include "batqemulo.h"
 
+static inline batqemulo_answer answer(uint32_t refusal, size_t value) {
+    batqemulo_answer given = {refusal, (uint32_t)value};
+    return given;
+}
+
 /* Labels and lengths of lists without a fault, in linear time. */
 void plain_solve(const uint8_t *marks, size_t statements, const uint32_t *objectors,
                  const uint32_t *targets, size_t pairs, uint8_t *labels, uint16_t *lengths);
 
-/* As batqemulo_pairs_labels, the search for a repeated pair quadratic as the library's is. */
+/* The first fault of lists, the search for a repeated pair quadratic as the library's is. */
+batqemulo_answer plain_check(const uint8_t *marks, size_t marks_len, const uint32_t *objectors,
+                             size_t objectors_len, const uint32_t *targets, size_t targets_len);
+
+/* As batqemulo_pairs_labels. */
 batqemulo_answer plain_pairs_labels(const uint8_t *marks, size_t marks_len,
                                     const uint32_t *objectors, size_t objectors_len,
                                     const uint32_t *targets, size_t targets_len, uint8_t *labels,
@@ -21,6 +30,18 @@ uint32_t plain_solver_label(const uint8_t *marks, size_t marks_len, const uint32
                             size_t objectors_len, const uint32_t *targets, size_t targets_len,
                             uint8_t *labels, size_t labels_len, uint16_t *lengths,
                             size_t lengths_len);
+
+/* As batqemulo_pairs_line: the register is solved, and then the objectors of each statement on the
+ * line are looked through. */
+batqemulo_answer plain_pairs_line(const uint8_t *marks, size_t marks_len, const uint32_t *objectors,
+                                  size_t objectors_len, const uint32_t *targets, size_t targets_len,
+                                  uint32_t place, uint32_t *line, size_t line_len);
+
+/* As batqemulo_pairs_exercise: two functions call each other and remember what they answered. */
+batqemulo_answer plain_pairs_exercise(const uint8_t *marks, size_t marks_len,
+                                      const uint32_t *objectors, size_t objectors_len,
+                                      const uint32_t *targets, size_t targets_len, uint32_t place,
+                                      uint32_t turns);
 
 /* As batqemulo_listing: numbers are looked up by hashing, and the search for a repeated objection
  * is quadratic. */

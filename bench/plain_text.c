@@ -26,11 +26,6 @@ struct line {
     const uint8_t *end;
 };
 
-static batqemulo_answer answer(uint32_t refusal, size_t value) {
-    batqemulo_answer given = {refusal, (uint32_t)value};
-    return given;
-}
-
 /* The slot of a number, or the empty one where it belongs. */
 static uint16_t *slot_of(struct page *page, uint32_t number) {
     uint32_t slot = (number * 2654435761u) >> (32 - SLOT_BITS);

@@ -61,12 +61,41 @@ static void draw_unread(void) {
     add_random();
 }
 
-static const struct {
-    const char *name;
-    void (*draw)(void);
-} shapes[SHAPES] = {
+/* A chain with three more objectors for each statement, nearer to its end and falling, so that no
+ * length changes: the longest line, with the most to look through at every step. */
+static void draw_ladder(void) {
+    size_t last = drawn.statements - 1;
+    draw_chain();
+    for (size_t target = 0; target < last; target++)
+        for (size_t objector = target + 2; objector < target + 8 && objector < last; objector++)
+            if ((last - objector) % 2 == 1)
+                add(objector, target);
+}
+
+/* As many statements as can object to each one before them but their neighbour, two by two. The
+ * last two stand and fell all others, but they are listed first, and the objectors of a statement
+ * are looked at from the last: of the registers that were tried, this has the exercise ask the most
+ * questions. */
+static void draw_stairs(void) {
+    size_t steps = 2;
+    while (2 * steps * (steps + 1) <= drawn.most_pairs)
+        steps++;
+    for (size_t objector = 2 * steps; objector-- > 0;)
+        for (size_t target = 0; target < objector; target++)
+            if (target / 2 != objector / 2)
+                add(objector, target);
+}
+
+const struct shape shapes_of_all[SHAPES_OF_ALL] = {
     {"random", draw_random}, {"chain", draw_chain},       {"dense", draw_dense},
     {"star", draw_star},     {"all unread", draw_unread},
+};
+
+const struct shape shapes_of_one[SHAPES_OF_ONE] = {
+    {"random", draw_random},
+    {"chain", draw_chain},
+    {"ladder", draw_ladder},
+    {"stairs", draw_stairs},
 };
 
 /* The statements at each size; there may be four times as many pairs. */
@@ -97,14 +126,10 @@ static void write_text(void) {
     }
 }
 
-const char *shape_name(size_t shape) {
-    return shapes[shape].name;
-}
-
-void draw(size_t shape, size_t size) {
+void draw(const struct shape *shape, size_t size) {
     memset(&drawn, 0, sizeof drawn);
     drawn.statements = sizes[size];
     drawn.most_pairs = 4 * sizes[size];
-    shapes[shape].draw();
+    shape->draw();
     write_text();
 }

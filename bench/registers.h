@@ -5,7 +5,19 @@
 #include "batqemulo.h"
 
 /* At every size there are twice the statements of the size before, the last being the limit. */
-enum { SIZES = 4, SHAPES = 5 };
+enum { SIZES = 4 };
+
+/* The shapes for calls that answer for all statements, and for those that are asked for one, which
+ * is the first. */
+enum { SHAPES_OF_ALL = 5, SHAPES_OF_ONE = 4 };
+
+struct shape {
+    const char *name;
+    void (*draw)(void);
+};
+
+extern const struct shape shapes_of_all[SHAPES_OF_ALL];
+extern const struct shape shapes_of_one[SHAPES_OF_ONE];
 
 struct drawn {
     size_t statements;
@@ -22,8 +34,6 @@ struct drawn {
 
 extern struct drawn drawn;
 
-const char *shape_name(size_t shape);
-
-void draw(size_t shape, size_t size);
+void draw(const struct shape *shape, size_t size);
 
 #endif

@@ -10,9 +10,10 @@
  * - A length beside a pointer counts entries, not bytes. A pointer may be NULL where its length
  *   is 0.
  * - No room may overlap another room or an input. Inputs are only read.
- * - A call on lists takes less than 24 KiB of stack, a call on a text less than 64 KiB. No call
- *   allocates, keeps anything from one call to the next or calls back, so calls may run in several
- *   threads at once.
+ * - A call on lists takes less than 32 KiB of stack, a call on a text less than 72 KiB. A call for
+ *   a line of argument goes as deep as the line is long and takes less than 256 KiB.
+ * - No call allocates, keeps anything from one call to the next or calls back, so calls may run in
+ *   several threads at once.
  */
 #ifndef BATQEMULO_H
 #define BATQEMULO_H
@@ -32,6 +33,12 @@ extern "C" {
 /* A room of so many bytes has space for every listing. */
 #define BATQEMULO_MAX_LISTING_BYTES 131072
 
+/* A room of so many entries has space for every line of argument. */
+#define BATQEMULO_MAX_LINE_ENTRIES 1024
+
+/* The most turns that the class exercise may be asked for. */
+#define BATQEMULO_MAX_TURNS 6
+
 /* The length of what has none: of an open statement, of an idle objection and of a standoff. Every
  * other length is at most BATQEMULO_MAX_STATEMENTS. */
 #define BATQEMULO_NO_LENGTH 65535
@@ -40,8 +47,8 @@ extern "C" {
 typedef struct {
     /* BATQEMULO_ACCEPTED, or the number of the refusal */
     uint32_t refusal;
-    /* accepted: how many entries or bytes were written; refused: the place of the fault, which is
-     * 0 where the table of refusals names none */
+    /* accepted: how many entries or bytes were written, or the answer of a call without a room;
+     * refused: the place of the fault, which is 0 where the table of refusals names none */
     uint32_t value;
 } batqemulo_answer;
 
@@ -62,13 +69,14 @@ enum batqemulo_refusal {
     BATQEMULO_MARK_UNKNOWN = 12,       /* the entry: a mark other than 0 and 1 */
     BATQEMULO_PLACE_OUTSIDE = 13,      /* the entry: a place not below the number of marks */
     BATQEMULO_ASKED_UNKNOWN = 14,      /* the asked statement is not on the register */
-    BATQEMULO_TOO_MANY_TURNS = 15      /* more than 6 turns asked */
+    BATQEMULO_TOO_MANY_TURNS = 15      /* more than BATQEMULO_MAX_TURNS asked */
 };
 
 /* The marks that a caller hands over. Of an unread statement not every objection is known yet. */
 enum batqemulo_mark { BATQEMULO_READ = 0, BATQEMULO_UNREAD = 1 };
 
-/* The label of a statement. */
+/* The label of a statement, and what the class exercise answers of one: that it stands or falls
+ * within the turns, or BATQEMULO_OPEN where it does neither. */
 enum batqemulo_label { BATQEMULO_OPEN = 0, BATQEMULO_STANDS = 1, BATQEMULO_FALLS = 2 };
 
 /* The kind of an objection. */
@@ -107,8 +115,10 @@ enum batqemulo_kind {
  *    7  it is an objection line, and its objector or its target is on no statement line before it
  *    8  it is an objection line, and one before it has the same objector and target
  *
- * and at last:
+ * and at last those of what is asked:
  *
+ *   14  the asked number is on no statement line
+ *   15  more than BATQEMULO_MAX_TURNS are asked
  *   10  the room is shorter than the answer
  */
 
@@ -136,6 +146,24 @@ batqemulo_answer batqemulo_text_labels(const uint8_t *text, size_t text_len, uin
 batqemulo_answer batqemulo_text_lengths(const uint8_t *text, size_t text_len, uint16_t *lengths,
                                         size_t lengths_len);
 
+/* Writes the line of argument of the statement with this number, as the numbers of the statements
+ * on it: the asked statement itself, then, while the length is above 0, the objector of the last
+ * one whose length is one less and whose label is the other of stands and falls. Of several it is
+ * the one whose statement line comes first. The line has as many entries as the asked statement's
+ * length and one more, at most BATQEMULO_MAX_LINE_ENTRIES; an open statement's is itself alone.
+ *
+ * Numbers from 1 to 99999999 stand for themselves; 0 and all others are on no statement line.
+ * Refusals: 1, 2, then 3 to 9 line by line, then 14, 10. */
+batqemulo_answer batqemulo_text_line(const uint8_t *text, size_t text_len, uint32_t number,
+                                     uint32_t *line, size_t line_len);
+
+/* The class exercise: does the statement with this number stand within so many turns, does it fall
+ * within so many. There is no room; the answer's value is BATQEMULO_STANDS or BATQEMULO_FALLS if
+ * that is the statement's label and its length is at most turns, else BATQEMULO_OPEN for neither.
+ * Refusals: 1, 2, then 3 to 9 line by line, then 14, 15. */
+batqemulo_answer batqemulo_text_exercise(const uint8_t *text, size_t text_len, uint32_t number,
+                                         uint32_t turns);
+
 /*
  * Registers handed over as lists of pairs.
  *
@@ -151,6 +179,8 @@ batqemulo_answer batqemulo_text_lengths(const uint8_t *text, size_t text_len, ui
  *   12  place: the first mark that is neither 0 nor 1
  *   13  place: the first pair of which either place is not below marks_len
  *    8  place: the first pair that stands earlier in the lists too
+ *   14  the asked place is not below marks_len
+ *   15  more than BATQEMULO_MAX_TURNS are asked
  *   10  a room is shorter than the answer
  */
 
@@ -177,6 +207,26 @@ batqemulo_answer batqemulo_pairs_kinds(const uint8_t *marks, size_t marks_len,
                                        const uint32_t *objectors, size_t objectors_len,
                                        const uint32_t *targets, size_t targets_len, uint8_t *kinds,
                                        size_t kinds_len, uint16_t *lengths, size_t lengths_len);
+
+/* Writes the line of argument of the statement at this place, as the places of the statements on
+ * it: the asked statement itself, then, while the length is above 0, the objector of the last one
+ * whose length is one less and whose label is the other of stands and falls. Of several it is the
+ * one at the smallest place, whatever the order of the pairs. The line has as many entries as the
+ * asked statement's length and one more, at most BATQEMULO_MAX_LINE_ENTRIES; an open statement's is
+ * itself alone. Refusals: 11, 6, 9, 12, 13, 8, 14, 10. */
+batqemulo_answer batqemulo_pairs_line(const uint8_t *marks, size_t marks_len,
+                                      const uint32_t *objectors, size_t objectors_len,
+                                      const uint32_t *targets, size_t targets_len, uint32_t place,
+                                      uint32_t *line, size_t line_len);
+
+/* The class exercise: does the statement at this place stand within so many turns, does it fall
+ * within so many. There is no room; the answer's value is BATQEMULO_STANDS or BATQEMULO_FALLS if
+ * that is the statement's label and its length is at most turns, else BATQEMULO_OPEN for neither.
+ * Refusals: 11, 6, 9, 12, 13, 8, 14, 15. */
+batqemulo_answer batqemulo_pairs_exercise(const uint8_t *marks, size_t marks_len,
+                                          const uint32_t *objectors, size_t objectors_len,
+                                          const uint32_t *targets, size_t targets_len,
+                                          uint32_t place, uint32_t turns);
 
 /*
  * Registers handed over as moves of the game.

@@ -17,6 +17,15 @@ enum { ARRAYS = 5, SPACE = 1 << 20 };
 /* The numbers of the calls on lists are below this one, those of the calls on a text are not. */
 enum { ON_TEXT = 20 };
 
+/* A request: the call, the statement and the turns that are asked if the call asks them, and how
+ * many arrays follow. */
+struct request {
+    uint32_t call;
+    uint32_t statement;
+    uint32_t turns;
+    uint32_t arrays;
+};
+
 /* What a request says of an array. The guards are entries in front of it and behind it. */
 struct shape {
     uint32_t width;
@@ -72,8 +81,8 @@ static void take_array(struct array *array) {
 }
 
 /* The numbers of the calls, here and below, are those of src/library/call.rs. */
-static batqemulo_answer call_on_lists(uint32_t call, const struct array *a) {
-    switch (call) {
+static batqemulo_answer call_on_lists(struct request request, const struct array *a) {
+    switch (request.call) {
     case 0:
         return batqemulo_pairs_labels(a[0].lent, a[0].len, a[1].lent, a[1].len, a[2].lent, a[2].len,
                                       a[3].lent, a[3].len);
@@ -89,19 +98,29 @@ static batqemulo_answer call_on_lists(uint32_t call, const struct array *a) {
     case 4:
         return batqemulo_moves_lengths(a[0].lent, a[0].len, a[1].lent, a[1].len, a[2].lent,
                                        a[2].len, a[3].lent, a[3].len);
+    case 5:
+        return batqemulo_pairs_line(a[0].lent, a[0].len, a[1].lent, a[1].len, a[2].lent, a[2].len,
+                                    request.statement, a[3].lent, a[3].len);
+    case 6:
+        return batqemulo_pairs_exercise(a[0].lent, a[0].len, a[1].lent, a[1].len, a[2].lent,
+                                        a[2].len, request.statement, request.turns);
     }
     stop("a call on lists that is not there");
     return (batqemulo_answer){0, 0};
 }
 
-static batqemulo_answer call_on_text(uint32_t call, const struct array *a) {
-    switch (call) {
+static batqemulo_answer call_on_text(struct request request, const struct array *a) {
+    switch (request.call) {
     case 20:
         return batqemulo_text_labels(a[0].lent, a[0].len, a[1].lent, a[1].len);
     case 21:
         return batqemulo_text_lengths(a[0].lent, a[0].len, a[1].lent, a[1].len);
     case 22:
         return batqemulo_listing(a[0].lent, a[0].len, a[1].lent, a[1].len);
+    case 23:
+        return batqemulo_text_line(a[0].lent, a[0].len, request.statement, a[1].lent, a[1].len);
+    case 24:
+        return batqemulo_text_exercise(a[0].lent, a[0].len, request.statement, request.turns);
     }
     stop("a call on a text that is not there");
     return (batqemulo_answer){0, 0};
@@ -109,10 +128,7 @@ static batqemulo_answer call_on_text(uint32_t call, const struct array *a) {
 
 int main(void) {
     struct array arrays[ARRAYS];
-    struct {
-        uint32_t call;
-        uint32_t arrays;
-    } request;
+    struct request request;
     for (size_t i = 0; i < ARRAYS; i++)
         arrays[i].space = new_space();
     while (fread(&request, sizeof request, 1, stdin) == 1) {
@@ -120,8 +136,8 @@ int main(void) {
             stop("too many arrays");
         for (size_t i = 0; i < request.arrays; i++)
             take_array(&arrays[i]);
-        batqemulo_answer answer = request.call < ON_TEXT ? call_on_lists(request.call, arrays)
-                                                         : call_on_text(request.call, arrays);
+        batqemulo_answer answer =
+            request.call < ON_TEXT ? call_on_lists(request, arrays) : call_on_text(request, arrays);
         write_all(&answer, sizeof answer);
         for (size_t i = 0; i < request.arrays; i++)
             write_all(arrays[i].start, arrays[i].size);

@@ -26,6 +26,12 @@ struct example {
     uint16_t kind_lengths[MOST];
     const char *text;
     const char *listing;
+    /* one statement by its place and its number, and its line of argument told by each */
+    uint32_t place;
+    uint32_t number;
+    size_t entries;
+    uint32_t places[MOST];
+    uint32_t numbers[MOST];
 };
 
 /* The game a, b, c, d, which are the places 0 to 3 and the numbers 101 to 104. */
@@ -44,6 +50,11 @@ static const struct example game = {
     "O\t102\t101\nO\t101\t102\nO\t103\t102\nO\t104\t103\n",
     "REGISTER\t4\t4\n101\topen\t-\n102\topen\t-\n103\tfalls\t1\n104\tstands\t0\n"
     "102\t101\tstandoff\t-\n101\t102\tstandoff\t-\n103\t102\tidle\t-\n104\t103\tfelling\t1\n",
+    2,
+    103,
+    2,
+    {2, 3},
+    {103, 104},
 };
 
 /* 4 against 3, 3 against 2, 2 against 1, and 1 is unread; they are the places 0 to 3 in this order.
@@ -62,6 +73,11 @@ static const struct example chain = {
     "S\t4\tR\nS\t3\tR\nS\t2\tR\nS\t1\tU\nO\t4\t3\nO\t3\t2\nO\t2\t1\n",
     "REGISTER\t4\t3\n4\tstands\t0\n3\tfalls\t1\n2\tstands\t2\n1\tfalls\t3\n"
     "4\t3\tfelling\t1\n3\t2\tdelaying\t2\n2\t1\tfelling\t3\n",
+    3,
+    1,
+    4,
+    {3, 2, 1, 0},
+    {1, 2, 3, 4},
 };
 
 static unsigned passed, failed;
@@ -172,6 +188,45 @@ static void ask_listing(const struct example *e) {
     free(listing);
 }
 
+/* The line of argument by places for lists, by numbers for a text. */
+static void ask_line(const struct example *e) {
+    size_t size = e->entries * sizeof(uint32_t);
+    uint32_t *line = room(size);
+    batqemulo_answer answer =
+        batqemulo_pairs_line(e->marks, e->statements, e->objectors, e->pairs, e->targets, e->pairs,
+                             e->place, line, e->entries);
+    check(e, "line of pairs", accepted(answer, e->entries) && memcmp(line, e->places, size) == 0);
+    answer =
+        batqemulo_text_line((const uint8_t *)e->text, strlen(e->text), e->number, line, e->entries);
+    check(e, "line of a text", accepted(answer, e->entries) && memcmp(line, e->numbers, size) == 0);
+    free(line);
+}
+
+/* What is open gives itself alone, whatever the room. */
+static void ask_open_lines(const struct example *e) {
+    uint32_t line[BATQEMULO_MAX_LINE_ENTRIES];
+    for (uint32_t x = 0; x < e->statements; x++)
+        if (e->labels[x] == BATQEMULO_OPEN) {
+            batqemulo_answer answer =
+                batqemulo_pairs_line(e->marks, e->statements, e->objectors, e->pairs, e->targets,
+                                     e->pairs, x, line, BATQEMULO_MAX_LINE_ENTRIES);
+            check(e, "line of an open statement", accepted(answer, 1) && line[0] == x);
+        }
+}
+
+/* The exercise has no room: its answer is the value. */
+static void ask_exercise(const struct example *e) {
+    for (uint32_t turns = 0; turns <= BATQEMULO_MAX_TURNS; turns++) {
+        uint8_t right = turns < e->lengths[e->place] ? BATQEMULO_OPEN : e->labels[e->place];
+        batqemulo_answer answer = batqemulo_pairs_exercise(
+            e->marks, e->statements, e->objectors, e->pairs, e->targets, e->pairs, e->place, turns);
+        check(e, "exercise on pairs", accepted(answer, right));
+        answer =
+            batqemulo_text_exercise((const uint8_t *)e->text, strlen(e->text), e->number, turns);
+        check(e, "exercise on a text", accepted(answer, right));
+    }
+}
+
 /* A refusal gives its number and place, and the room stays as it was. */
 static void be_refused(const struct example *e) {
     uint8_t labels[MOST] = {7, 7, 7, 7};
@@ -208,6 +263,29 @@ static void have_text_refused(const struct example *e) {
     check(e, "the room after refused texts", memcmp(labels, as_found, sizeof labels) == 0);
 }
 
+/* A statement that is not there, a turn too many, and a room that is one entry short. */
+static void have_asked_refused(const struct example *e) {
+    uint32_t line[MOST] = {7, 7, 7, 7};
+    const uint32_t as_found[MOST] = {7, 7, 7, 7};
+    const uint8_t *text = (const uint8_t *)e->text;
+    size_t bytes = strlen(e->text);
+    batqemulo_answer answer =
+        batqemulo_pairs_line(e->marks, e->statements, e->objectors, e->pairs, e->targets, e->pairs,
+                             (uint32_t)e->statements, line, MOST);
+    check(e, "line of an unknown place", refused(answer, BATQEMULO_ASKED_UNKNOWN, 0));
+    answer = batqemulo_text_line(text, bytes, 0, line, MOST);
+    check(e, "line of number 0", refused(answer, BATQEMULO_ASKED_UNKNOWN, 0));
+    answer = batqemulo_text_exercise(text, bytes, 100000000, 0);
+    check(e, "exercise on nine digits", refused(answer, BATQEMULO_ASKED_UNKNOWN, 0));
+    answer = batqemulo_text_exercise(text, bytes, e->number, BATQEMULO_MAX_TURNS + 1);
+    check(e, "a turn too many", refused(answer, BATQEMULO_TOO_MANY_TURNS, 0));
+    answer = batqemulo_text_line(text, bytes, e->number, line, e->entries - 1);
+    check(e, "a short room for a line", refused(answer, BATQEMULO_ROOM_TOO_SHORT, 0));
+    answer = batqemulo_text_line(text, bytes, e->number, NULL, 0);
+    check(e, "no room for a line", refused(answer, BATQEMULO_ROOM_TOO_SHORT, 0));
+    check(e, "the room after refused lines", memcmp(line, as_found, sizeof line) == 0);
+}
+
 /* Where every length is 0, every pointer may be NULL. */
 static void ask_of_nothing(void) {
     static const struct example nothing = {.name = "the empty register"};
@@ -220,6 +298,11 @@ static void ask_of_nothing(void) {
           accepted(batqemulo_text_lengths((const uint8_t *)"", 0, NULL, 0), 0));
     check(&nothing, "no room for its listing",
           refused(batqemulo_listing(NULL, 0, NULL, 0), BATQEMULO_ROOM_TOO_SHORT, 0));
+    check(&nothing, "no line of argument",
+          refused(batqemulo_pairs_line(NULL, 0, NULL, 0, NULL, 0, 0, NULL, 0),
+                  BATQEMULO_ASKED_UNKNOWN, 0));
+    check(&nothing, "no exercise",
+          refused(batqemulo_text_exercise(NULL, 0, 1, 0), BATQEMULO_ASKED_UNKNOWN, 0));
 }
 
 int main(void) {
@@ -230,8 +313,12 @@ int main(void) {
         ask_kinds(examples[i]);
         ask_text(examples[i]);
         ask_listing(examples[i]);
+        ask_line(examples[i]);
+        ask_open_lines(examples[i]);
+        ask_exercise(examples[i]);
         be_refused(examples[i]);
         have_text_refused(examples[i]);
+        have_asked_refused(examples[i]);
     }
     ask_of_nothing();
     printf("%u passed, %u failed\n", passed, failed);

@@ -9,13 +9,12 @@
 mod inputs;
 mod library;
 mod random;
+mod run;
 mod second;
 mod suites;
 
 use inputs::examples::EXAMPLES;
 use inputs::text::Text;
-use library::caller::Caller;
-use library::session::Session;
 use second::expected::Expected;
 use second::listing;
 use std::io::{Error, Read, Write};
@@ -30,7 +29,7 @@ fn main() -> ExitCode {
         [word, folder] if word == "examples" => {
             write_examples(Path::new(folder)).map_err(|error| error.to_string())
         }
-        command => Caller::start(command).map(|caller| run(Session::new(caller))),
+        command => run_tests(command),
     };
     ended.unwrap_or_else(|why| {
         eprintln!("{why}");
@@ -62,24 +61,10 @@ fn write_examples(folder: &Path) -> Result<ExitCode, Error> {
     Ok(ExitCode::SUCCESS)
 }
 
-fn run(mut session: Session) -> ExitCode {
-    let (mut passed, mut failed, mut total) = (0, 0, 0);
-    for test in suites::all() {
-        let outcome = (test.run)(&mut session);
-        let comparisons = session.take_count();
-        total += comparisons;
-        match outcome {
-            Ok(()) => {
-                passed += 1;
-                println!("ok {} ({comparisons} comparisons)", test.name);
-            }
-            Err(what) => {
-                failed += 1;
-                println!("FAILED {}: {what}", test.name);
-            }
-        }
-    }
-    println!("{total} comparisons");
-    println!("{passed} passed, {failed} failed");
-    ExitCode::from(u8::from(failed > 0))
+/// Runs the tests, and prints the sum on the last line.
+fn run_tests(command: &[String]) -> Result<ExitCode, String> {
+    let sum = run::all(command)?;
+    println!("{} comparisons", sum.comparisons);
+    println!("{} passed, {} failed", sum.passed, sum.failed);
+    Ok(ExitCode::from(u8::from(sum.failed > 0)))
 }

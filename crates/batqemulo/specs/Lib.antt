@@ -1,3 +1,1 @@
-pub mod Answer
-pub mod Lists
-pub mod Texts
+pub mod InC

@@ -1,12 +1,10 @@
 // What C calls, by the names of include/batqemulo.h. Each function only turns the answer of a call into two numbers.
-use crate::Answer;
 use crate::CAnswer;
-use crate::lists;
-use crate::texts;
+use answer::Answer;
 ghost use mathlib.Core.Path.{_≡_};
-ghost use Rattle.batqemulo.specs.Answer.{inC, InC};
-ghost use Rattle.batqemulo.specs.Lists.{PairsLabels, PairsLengths, PairsKinds, MovesLabels, MovesLengths};
-ghost use Rattle.batqemulo.specs.Texts.{TextLabels, TextLengths, TextListing};
+ghost use Rattle.batqemulo.specs.InC.{inC, InC};
+ghost use Rattle.on_lists.specs.Lists.{PairsLabels, PairsLengths, PairsKinds, MovesLabels, MovesLengths, PairsLine, PairsExercise};
+ghost use Rattle.on_text.specs.Texts.{TextLabels, TextLengths, TextListing, TextLine, TextExercise};
 
 fn in_c(answer: Answer) -> CAnswer
     ensures { λ c. ⌜ c ≡ inC answer ⌝ }
@@ -30,7 +28,7 @@ pub extern "C" fn batqemulo_pairs_labels(
 ) -> CAnswer
     ensures { λ c. ⌜ InC (λ a. PairsLabels (now (marks .entry)) (now (objectors .entry)) (now (targets .entry)) (now (labels .entry)) a (now (labels .exit))) c ⌝ }
 {
-    in_c(lists::pairs_labels(marks, objectors, targets, labels))
+    in_c(on_lists::pairs_labels(marks, objectors, targets, labels))
 }
 
 // Lengths of pairs.
@@ -43,7 +41,7 @@ pub extern "C" fn batqemulo_pairs_lengths(
 ) -> CAnswer
     ensures { λ c. ⌜ InC (λ a. PairsLengths (now (marks .entry)) (now (objectors .entry)) (now (targets .entry)) (now (lengths .entry)) a (now (lengths .exit))) c ⌝ }
 {
-    in_c(lists::pairs_lengths(marks, objectors, targets, lengths))
+    in_c(on_lists::pairs_lengths(marks, objectors, targets, lengths))
 }
 
 // Kinds and lengths of the objections of pairs.
@@ -57,7 +55,7 @@ pub extern "C" fn batqemulo_pairs_kinds(
 ) -> CAnswer
     ensures { λ c. ⌜ InC (λ a. PairsKinds (now (marks .entry)) (now (objectors .entry)) (now (targets .entry)) (now (kinds .entry), now (lengths .entry)) a (now (kinds .exit), now (lengths .exit))) c ⌝ }
 {
-    in_c(lists::pairs_kinds(marks, objectors, targets, kinds, lengths))
+    in_c(on_lists::pairs_kinds(marks, objectors, targets, kinds, lengths))
 }
 
 // Labels of moves.
@@ -70,7 +68,7 @@ pub extern "C" fn batqemulo_moves_labels(
 ) -> CAnswer
     ensures { λ c. ⌜ InC (λ a. MovesLabels (now (marks .entry)) (now (from .entry)) (now (to .entry)) (now (labels .entry)) a (now (labels .exit))) c ⌝ }
 {
-    in_c(lists::moves_labels(marks, from, to, labels))
+    in_c(on_lists::moves_labels(marks, from, to, labels))
 }
 
 // Lengths of moves.
@@ -83,7 +81,7 @@ pub extern "C" fn batqemulo_moves_lengths(
 ) -> CAnswer
     ensures { λ c. ⌜ InC (λ a. MovesLengths (now (marks .entry)) (now (from .entry)) (now (to .entry)) (now (lengths .entry)) a (now (lengths .exit))) c ⌝ }
 {
-    in_c(lists::moves_lengths(marks, from, to, lengths))
+    in_c(on_lists::moves_lengths(marks, from, to, lengths))
 }
 
 // Labels of a register text.
@@ -91,7 +89,7 @@ pub extern "C" fn batqemulo_moves_lengths(
 pub extern "C" fn batqemulo_text_labels(text: &[u8], labels: &mut [u8]) -> CAnswer
     ensures { λ c. ⌜ InC (λ a. TextLabels (now (text .entry)) (now (labels .entry)) a (now (labels .exit))) c ⌝ }
 {
-    in_c(texts::text_labels(text, labels))
+    in_c(on_text::text_labels(text, labels))
 }
 
 // Lengths of a register text.
@@ -99,7 +97,7 @@ pub extern "C" fn batqemulo_text_labels(text: &[u8], labels: &mut [u8]) -> CAnsw
 pub extern "C" fn batqemulo_text_lengths(text: &[u8], lengths: &mut [u16]) -> CAnswer
     ensures { λ c. ⌜ InC (λ a. TextLengths (now (text .entry)) (now (lengths .entry)) a (now (lengths .exit))) c ⌝ }
 {
-    in_c(texts::text_lengths(text, lengths))
+    in_c(on_text::text_lengths(text, lengths))
 }
 
 // The listing of a text.
@@ -107,5 +105,49 @@ pub extern "C" fn batqemulo_text_lengths(text: &[u8], lengths: &mut [u16]) -> CA
 pub extern "C" fn batqemulo_listing(text: &[u8], room: &mut [u8]) -> CAnswer
     ensures { λ c. ⌜ InC (λ a. TextListing (now (text .entry)) (now (room .entry)) a (now (room .exit))) c ⌝ }
 {
-    in_c(texts::text_listing(text, room))
+    in_c(on_text::text_listing(text, room))
+}
+
+// The line of argument in pairs.
+#[no_mangle]
+pub extern "C" fn batqemulo_pairs_line(
+    marks: &[u8],
+    objectors: &[u32],
+    targets: &[u32],
+    place: u32,
+    line: &mut [u32],
+) -> CAnswer
+    ensures { λ c. ⌜ InC (λ a. PairsLine (now (marks .entry)) (now (objectors .entry)) (now (targets .entry)) place (now (line .entry)) a (now (line .exit))) c ⌝ }
+{
+    in_c(on_lists::pairs_line(marks, objectors, targets, place, line))
+}
+
+// The class exercise on pairs.
+#[no_mangle]
+pub extern "C" fn batqemulo_pairs_exercise(
+    marks: &[u8],
+    objectors: &[u32],
+    targets: &[u32],
+    place: u32,
+    turns: u32,
+) -> CAnswer
+    ensures { λ c. ⌜ InC (PairsExercise (now (marks .entry)) (now (objectors .entry)) (now (targets .entry)) place turns) c ⌝ }
+{
+    in_c(on_lists::pairs_exercise(marks, objectors, targets, place, turns))
+}
+
+// The line of argument in a text.
+#[no_mangle]
+pub extern "C" fn batqemulo_text_line(text: &[u8], number: u32, line: &mut [u32]) -> CAnswer
+    ensures { λ c. ⌜ InC (λ a. TextLine (now (text .entry)) number (now (line .entry)) a (now (line .exit))) c ⌝ }
+{
+    in_c(on_text::text_line(text, number, line))
+}
+
+// The class exercise on a text.
+#[no_mangle]
+pub extern "C" fn batqemulo_text_exercise(text: &[u8], number: u32, turns: u32) -> CAnswer
+    ensures { λ c. ⌜ InC (TextExercise (now (text .entry)) number turns) c ⌝ }
+{
+    in_c(on_text::text_exercise(text, number, turns))
 }

@@ -1,19 +1,22 @@
-// The product's public calls: what other Rattle programs call is in the modules here, and what C calls is in `c`. None asks
-// anything of its caller. The work is done by the crates below; here an input is accepted or refused, and the lent rooms
-// are filled or left as found.
+// The product: what other Rattle programs call is named here, and what C calls is in `c`. None of it asks anything of its
+// caller. The calls themselves are in `on_lists` and `on_text`.
 pub mod c;
-pub mod lists;
-pub mod texts;
 
-use refusal::Refusal;
+pub use answer::Answer;
+pub use on_lists::moves_labels;
+pub use on_lists::moves_lengths;
+pub use on_lists::pairs_exercise;
+pub use on_lists::pairs_kinds;
+pub use on_lists::pairs_labels;
+pub use on_lists::pairs_lengths;
+pub use on_lists::pairs_line;
+pub use on_text::text_exercise;
+pub use on_text::text_labels;
+pub use on_text::text_lengths;
+pub use on_text::text_line;
+pub use on_text::text_listing;
 
-// What a call answers. `Given` holds how many entries or bytes were written, or the answer itself.
-pub enum Answer {
-    Refused(Refusal),
-    Given(u32),
-}
-
-// The same for C: `refusal` is 0 where the call is accepted, else 01's number with its place as `value`.
+// The answer as C gets it: `refusal` is 0 where the call is accepted, else 01's number with its place as `value`.
 #[repr(C)]
 pub struct CAnswer {
     pub refusal: u32,

@@ -3,17 +3,18 @@
 use mathlib.Core.Bool.{Bool, _&&_}
 use mathlib.Core.List.{List, [], _∷_}
 use mathlib.Core.Path.{_≡_, refl, subst, sym, ap}
-use Prim.Native.Nat.{ℕ, zero, suc, _<_}
+use Prim.Native.Nat.{ℕ, zero, suc, _-_, _≤_, _<_}
 use native.Mathlib.Decide.{ℕ-discrete}
+use native.Mathlib.Nat.{not-suc-le-zero, le-of-suc-le-suc}
 use native.Mathlib.Omega.{arith}
 use lib.Dec.{T, ltb, ltb→lt, lt→ltb}
-use lib.ListN.{length}
+use lib.ListN.{length, getD}
 use Rattle.game.specs.Book.{Book, Listed, Objects}
 use Rattle.game.specs.Label.{Verdict, Verdict-discrete, is-open, stands, falls, Means}
 use Rattle.game.specs.Agree.{Fits}
 use Rattle.game.specs.Line.{Onward, Last, Earliest, Line, ends, goes-on}
 use Rattle.game.proofs.Search.{both, and-of, least, is-yes, from-yes, to-yes}
-use Rattle.game.proofs.Verdict.{verdict, verdict-means, means-verdict, means-unique}
+use Rattle.game.proofs.Verdict.{verdict, verdict-means, means-verdict, means-unique, Within, length-bound}
 use Rattle.game.proofs.Agree.{verdict-agrees}
 
 -- how many turns a verdict takes
@@ -22,7 +23,7 @@ turns is-open = 0
 turns (stands n) = n
 turns (falls n) = n
 
-last : (v : Verdict) → turns v ≡ 0 → Last v
+pub last : (v : Verdict) → turns v ≡ 0 → Last v
 last is-open e = tt
 last (stands n) e = e
 last (falls n) e = e
@@ -57,7 +58,7 @@ module _ (B : Book) where
           (to-yes (Verdict-discrete ℕ-discrete (verdict B y) w) e)
 
   -- what has turns left has an objector that takes one turn less
-  next : (x n : ℕ) (v : Verdict) → Fits B (verdict B) x v → turns v ≡ suc n → (y : ℕ) × (w : Verdict) × Objects B y x × (verdict B y ≡ w) × Onward v w × (turns w ≡ n)
+  pub next : (x n : ℕ) (v : Verdict) → Fits B (verdict B) x v → turns v ≡ suc n → (y : ℕ) × (w : Verdict) × Objects B y x × (verdict B y ≡ w) × Onward v w × (turns w ≡ n)
   next x n is-open a e = absurd (omega arith)
   next x n (falls k) (m, d, (y, o, f), c) e = (y, stands m, o, f, d, omega arith)
   next x n (stands k) (r, a, top) e = let (y, o, f) = top n e in (y, falls n, o, f, e, refl)
@@ -108,3 +109,21 @@ module _ (B : Book) where
   line-unique {x} (goes-on {y = y} {l = l} v w m o f r) (goes-on {y = y′} {l = l′} v′ w′ m′ o′ f′ r′) =
       let d : w ≡ w′ = onward-unique v w w′ o (subst (λ u. Onward u w′) (means-unique B x v′ v m′ m) o′) in
       ap (λ k. x ∷ k) (line-unique r (subst (λ z. Line B z l′) (sym (same-earliest x y y′ w w′ d f f′)) r′))
+
+  -- no line is longer than the register
+  pub line-bound : (x : ℕ) (l : List ℕ) → Listed B x → Line B x l → length l ≤ B .size
+  line-bound x l h r =
+      let (k, t, c) = line x (verdict B x) h (verdict-means B x h) in
+      omega (arith, ap length (line-unique r t), c, few (B .size - 1) (verdict B x) (length-bound B x h (verdict B x) (verdict-means B x h)))
+    where
+      few : (n : ℕ) (v : Verdict) → Within n v → turns v ≤ n
+      few n is-open w = omega arith
+      few n (stands k) w = w
+      few n (falls k) w = w
+
+  -- and all of it is listed
+  pub line-listed : {x : ℕ} {l : List ℕ} → Listed B x → Line B x l → (k : ℕ) → k < length l → Listed B (getD l k 0)
+  line-listed h (ends v m p) zero i = h
+  line-listed h (ends v m p) (suc k) i = absurd (not-suc-le-zero (le-of-suc-le-suc i))
+  line-listed h (goes-on v w m o f r) zero i = h
+  line-listed h (goes-on v w m o f r) (suc k) i = line-listed (f .objects .0) r k (le-of-suc-le-suc i)

@@ -2,7 +2,7 @@
 -- statements less 1. What stands has only falling objectors, and what is open no standing one.
 use mathlib.Core.Bool.{Bool, true, false, not, cond}
 use mathlib.Core.Logic.{_⊎_, inl, inr, _↔_}
-use mathlib.Core.Path.{_≡_, refl, ap, subst, sym}
+use mathlib.Core.Path.{_≡_, refl, ap, subst, sym, _∙_}
 use Prim.Native.Nat.{ℕ, zero, suc, _≤_, _<_, _-_}
 use native.Mathlib.Decide.{decLe}
 use native.Mathlib.Omega.{arith}
@@ -61,6 +61,10 @@ module _ (B : Book) where
   -- one verdict at most
   pub means-unique : (x : ℕ) (v w : Verdict) → Means B x v → Means B x w → v ≡ w
   means-unique x v w p q = ruled-unique x v w (means-ruled x v p) (means-ruled x w q)
+
+  -- so what is said of a statement by a number of its verdict is one
+  pub number-unique : (number : Verdict → ℕ) (x e e′ : ℕ) → (v : Verdict) × Means B x v × (e ≡ number v) → (v : Verdict) × Means B x v × (e′ ≡ number v) → e ≡ e′
+  number-unique number x e e′ (v, m, p) (w, n, q) = p ∙ ap number (means-unique x v w m n) ∙ sym q
 
   settled-le : (n m x : ℕ) → n ≤ m → T (settled B n x) → T (settled B m x)
   settled-le n m x h t = go (settled-cases B n x t)

@@ -14,7 +14,8 @@ use Rattle.game.specs.Label.{Verdict, is-open, stands, falls, Means, labelNumbe
 use Rattle.game.specs.Agree.{Fits, Agrees}
 use Rattle.game.proofs.Agree.{agrees-means}
 use Rattle.game.proofs.Lists.{objects-entry}
-use Rattle.label.specs.Labelled.{Handed, Labelled}
+use Rattle.chain.specs.Handed.{Handed}
+use Rattle.label.specs.Labelled.{Labelled}
 use Rattle.label.specs.State.{Sound, Full}
 
 -- what a label's number and a length's number say

@@ -8,7 +8,8 @@ use Rattle.game.specs.Book.{bookOf}
 use Rattle.game.specs.Objection.{Ends, OfKind}
 use Rattle.game.specs.declared.Kind.{Kind}
 use Rattle.game.proofs.Lists.{objects-entry}
-use Rattle.label.specs.Labelled.{Handed, Labelled}
+use Rattle.chain.specs.Handed.{Handed}
+use Rattle.label.specs.Labelled.{Labelled}
 
 module _ (marks objectors targets labels lengths : List ℕ) (reg : Handed marks objectors targets) (told : Labelled (bookOf marks objectors targets) labels lengths) (k y x : ℕ) (h : k < length objectors) (hy : y ≡ getD objectors k 0) (hx : x ≡ getD targets k 0) where
   pub objector-place : y < length marks

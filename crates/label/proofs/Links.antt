@@ -1,56 +1,15 @@
--- What the linear-time solver prepares: the chains and the counts.
+-- What the linear-time solver prepares: the counts. And what it reads out of the lists.
 use mathlib.Core.Path.{_≡_, sym, _∙_, ap}
-use mathlib.Core.Logic.{_⊎_, inl, inr, ⊎-elim}
+use mathlib.Core.Logic.{_⊎_, ⊎-elim}
 use mathlib.Core.List.{List}
 use Prim.Native.Nat.{ℕ, _+_, _<_}
 use native.Mathlib.Omega.{arith}
-use native.Mathlib.Decide.{ℕ-discrete}
 use lib.ListN.{length, getD, set, length-set, replicate, length-replicate, getD-replicate}
-use lib.Seq.{getD-set-same, getD-set-other, set-set, set-getD}
-use Rattle.label.specs.Labelled.{Handed}
-use Rattle.label.specs.Queue.{Chained, Counted, cnt}
-use Rattle.label.proofs.Steps.{split}
+use lib.Seq.{getD-set-same, set-set, set-getD}
+use Rattle.chain.specs.Handed.{Handed}
+use Rattle.chain.proofs.Links.{stored}
+use Rattle.label.specs.Queue.{Counted, cnt}
 use Rattle.label.proofs.Counts.{cnt-flip, cnt-other, cnt-ones}
-
--- after a store: the element stored, or as it was
-pub stored : (l : List ℕ) (i v : ℕ) → i < length l → (j : ℕ) → ((j ≡ i) × (getD (set l i v) j 0 ≡ v)) ⊎ ((j ≡ i → ⊥) × (getD (set l i v) j 0 ≡ getD l j 0))
-stored l i v h j = go (ℕ-discrete j i)
-  where
-    go : Dec (j ≡ i) → ((j ≡ i) × (getD (set l i v) j 0 ≡ v)) ⊎ ((j ≡ i → ⊥) × (getD (set l i v) j 0 ≡ getD l j 0))
-    go (yes p) = inl (p, rw p (getD-set-same l i v 0 h))
-    go (no p) = inr (p, getD-set-other l i j v 0 p)
-
-pub chained-none : (marks objectors head next : List ℕ) → ((y : ℕ) → y < length marks → getD head y 0 ≡ 0) → Chained marks objectors 0 head next
-chained-none marks objectors head next z = record {
-  head-low = λ y hy. omega (arith, z y hy);
-  head-of = λ y e hy p. absurd (omega (arith, z y hy));
-  head-last = λ y e hy he. absurd (omega arith);
-  next-low = λ d hd. absurd (omega arith);
-  next-of = λ d e hd. absurd (omega arith);
-  next-last = λ d e hd. absurd (omega arith);
-}
-
-pub chained-more : (marks objectors head next : List ℕ) (i y : ℕ) → Chained marks objectors i head next → getD objectors i 0 ≡ y → y < length marks → y < length head → i < length next → Chained marks objectors (i + 1) (set head y (i + 1)) (set next i (getD head y 0))
-chained-more marks objectors head next i y ch hy hm hh hn = record {
-  head-low = λ z hz. ⊎-elim (λ a. omega arith) (λ a. omega (arith, ch .head-low z hz)) (hd z);
-  head-of = λ z e hz p. ⊎-elim (λ a. rw (same e (a .1) p) (hy ∙ sym (a .0))) (λ a. ch .head-of z e hz (p ∙ a .1)) (hd z);
-  head-last = λ z e hz he p. ⊎-elim (λ a. omega arith) (λ a. ⊎-elim (λ q. omega (arith, ch .head-last z e hz q p)) (λ q. absurd (a .0 (sym p ∙ ap (λ (j : ℕ). getD objectors j 0) q ∙ hy))) (split he)) (hd z);
-  next-low = λ d h. ⊎-elim (λ a. omega (arith, a .1, ch .head-low y hm)) (λ a. omega (arith, a .1, ch .next-low d (below d h (a .0)))) (nx d);
-  next-of = λ d e h p. ⊎-elim (λ a. ch .head-of y e hm (p ∙ a .1) ∙ sym hy ∙ ap (λ (j : ℕ). getD objectors j 0) (sym (a .0))) (λ a. ch .next-of d e (below d h (a .0)) (p ∙ a .1)) (nx d);
-  next-last = λ d e h g p. ⊎-elim (λ a. omega (arith, a .1, ch .head-last y e hm (omega (arith, a .0)) (p ∙ ap (λ (j : ℕ). getD objectors j 0) (a .0) ∙ hy))) (λ a. omega (arith, a .1, ch .next-last d e (below d h (a .0)) g p)) (nx d);
-}
-  where
-    hd : (z : ℕ) → ((z ≡ y) × (getD (set head y (i + 1)) z 0 ≡ i + 1)) ⊎ ((z ≡ y → ⊥) × (getD (set head y (i + 1)) z 0 ≡ getD head z 0))
-    hd = stored head y (i + 1) hh
-
-    nx : (d : ℕ) → ((d ≡ i) × (getD (set next i (getD head y 0)) d 0 ≡ getD head y 0)) ⊎ ((d ≡ i → ⊥) × (getD (set next i (getD head y 0)) d 0 ≡ getD next d 0))
-    nx = stored next i (getD head y 0) hn
-
-    below : (d : ℕ) → d < i + 1 → (d ≡ i → ⊥) → d < i
-    below d h n = omega arith
-
-    same : (e : ℕ) {w : ℕ} → w ≡ i + 1 → e + 1 ≡ w → e ≡ i
-    same e a b = omega arith
 
 pub counted-none : (marks targets left : List ℕ) → ((x : ℕ) → x < length marks → getD left x 0 ≡ 0) → Counted marks targets 0 left
 counted-none marks targets left z = record {

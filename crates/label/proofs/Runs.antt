@@ -8,10 +8,12 @@ use native.Mathlib.Decide.{ℕ-discrete}
 use lib.Dec.{lit<}
 use lib.ListN.{length, getD, set, length-set}
 use lib.Seq.{getD-set-same, getD-set-other}
-use Rattle.label.specs.Labelled.{Handed}
+use Rattle.chain.specs.Chained.{Chained}
+use Rattle.chain.specs.Handed.{Handed}
+use Rattle.chain.proofs.Links.{split}
 use Rattle.label.specs.State.{Sound, Full, Fells, Blank}
-use Rattle.label.specs.Queue.{Chained, Counted, Pending, Owed, Run, Turn, cnt}
-use Rattle.label.proofs.Steps.{back, kept, sound-fall, sound-stand, sound-blank, zeros-set, zeros-all, split}
+use Rattle.label.specs.Queue.{Counted, Pending, Owed, Run, Turn, cnt}
+use Rattle.label.proofs.Steps.{back, kept, sound-fall, sound-stand, sound-blank, zeros-set, zeros-all}
 use Rattle.label.proofs.Counts.{cnt-flip, cnt-other, cnt-none, cnt-some}
 
 -- the queue with one more place
@@ -97,7 +99,7 @@ module _ (marks objectors targets : List ℕ) (reg : Handed marks objectors targ
             (b .0 ∙ f .0, omega (arith, f .1))
 
   -- the objection e of the standing y is looked at: its target falls
-  module _ (head next : List ℕ) (ch : Chained marks objectors (length objectors) head next) (e : ℕ) (hc : e + 1 ≡ c) (he : e < length objectors) (ho : getD objectors e 0 ≡ y) where
+  module _ (head next : List ℕ) (ch : Chained objectors (length objectors) head next) (e : ℕ) (hc : e + 1 ≡ c) (he : e < length objectors) (ho : getD objectors e 0 ≡ y) where
     -- what is owed past the link, is owed past the next one, or is e
     owed-next : (d : ℕ) → Owed objectors queue s t y c d → (d ≡ e) ⊎ Owed objectors queue s t y (getD next e 0) d
     owed-next d = ⊎-elim (λ p. inr (inl p)) (λ w. go w (ℕ-discrete d e))
@@ -189,14 +191,14 @@ module _ (marks objectors targets : List ℕ) (reg : Handed marks objectors targ
           go-lifted w hw hlim m l0 (no p) = r .lifted w hw hlim m (sym (getD-set-other left x w n 0 p) ∙ l0)
 
 -- the place at h of the queue is looked at
-module _ (marks objectors targets : List ℕ) (reg : Handed marks objectors targets) (lim h t y k : ℕ) (labels lengths left queue head next : List ℕ) (ch : Chained marks objectors (length objectors) head next) (r : Run marks objectors targets lim h t y 0 k labels lengths left queue) (hh : h < t) where
+module _ (marks objectors targets : List ℕ) (reg : Handed marks objectors targets) (lim h t y k : ℕ) (labels lengths left queue head next : List ℕ) (ch : Chained objectors (length objectors) head next) (r : Run marks objectors targets lim h t y 0 k labels lengths left queue) (hh : h < t) where
   owed-pop : (e : ℕ) → e < length objectors → Owed objectors queue h t y 0 e → Owed objectors queue (h + 1) t (getD queue h 0) (getD head (getD queue h 0) 0) e
   owed-pop e he = ⊎-elim (λ p. go p (ℕ-discrete (p .0) h)) (λ w. absurd (omega arith))
     where
       go : (p : Pending queue h t (getD objectors e 0)) → Dec (p .0 ≡ h) → Owed objectors queue (h + 1) t (getD queue h 0) (getD head (getD queue h 0) 0) e
       go p (yes q) =
           let a : getD objectors e 0 ≡ getD queue h 0 = sym (p .3) ∙ ap (λ (i : ℕ). getD queue i 0) q in
-          inr (a, ch .head-last (getD queue h 0) e (r .places h hh) he a)
+          inr (a, ch .head-last (getD queue h 0) e he a)
       go p (no q) = inl (p .0, omega (arith, p .1), p .2, p .3)
 
   owed-back : (e : ℕ) → Owed objectors queue (h + 1) t (getD queue h 0) (getD head (getD queue h 0) 0) e → Owed objectors queue h t y 0 e
@@ -235,19 +237,19 @@ pub record Link (marks objectors : List ℕ) (h t y v c k : ℕ) (labels lengths
   pub before-tail : h < t
   pub at : getD queue h 0 ≡ y
 
-module _ (marks objectors targets head next : List ℕ) (ch : Chained marks objectors (length objectors) head next) where
+module _ (marks objectors targets head next : List ℕ) (ch : Chained objectors (length objectors) head next) where
   pub link-first : (lim s h t y c k v : ℕ) (labels lengths left queue : List ℕ) → Run marks objectors targets lim s t y c k labels lengths left queue → h < t → getD labels (getD queue h 0) 0 ≡ v → Link marks objectors h t (getD queue h 0) v (getD head (getD queue h 0) 0) (getD lengths (getD queue h 0) 0 + 1) labels lengths queue
   link-first lim s h t y c k v labels lengths left queue r hh l = record {
     place = r .places h hh;
     label = l;
     len = refl;
-    low = ch .head-low (getD queue h 0) (r .places h hh);
-    of = λ e p. ch .head-of (getD queue h 0) e (r .places h hh) p;
+    low = ch .head-low (getD queue h 0);
+    of = λ e p. ch .head-of (getD queue h 0) e p;
     before-tail = hh;
     at = refl;
   }
 
-module _ (marks objectors targets : List ℕ) (reg : Handed marks objectors targets) (head next : List ℕ) (ch : Chained marks objectors (length objectors) head next) (lim h t y v c k : ℕ) (labels lengths left queue : List ℕ) (r : Run marks objectors targets lim (h + 1) t y c k labels lengths left queue) (ln : Link marks objectors h t y v c k labels lengths queue) (hc : c ≡ 0 → ⊥) where
+module _ (marks objectors targets : List ℕ) (reg : Handed marks objectors targets) (head next : List ℕ) (ch : Chained objectors (length objectors) head next) (lim h t y v c k : ℕ) (labels lengths left queue : List ℕ) (r : Run marks objectors targets lim (h + 1) t y c k labels lengths left queue) (ln : Link marks objectors h t y v c k labels lengths queue) (hc : c ≡ 0 → ⊥) where
   here₁ : c - 1 < length objectors
   here₁ = omega (arith, ln .low)
 
@@ -278,7 +280,7 @@ module _ (marks objectors targets : List ℕ) (reg : Handed marks objectors targ
         at = getD-set-other queue t h x 0 (λ (p : h ≡ t). omega (arith, ln .before-tail)) ∙ ln .at;
       }
 
-module _ (marks objectors targets : List ℕ) (reg : Handed marks objectors targets) (head next : List ℕ) (ch : Chained marks objectors (length objectors) head next) (lim h t y v c k : ℕ) (labels lengths left queue : List ℕ) (r : Run marks objectors targets lim (h + 1) t y c k labels lengths left queue) (ln : Link marks objectors h t y v c k labels lengths queue) (hc : c ≡ 0 → ⊥) where
+module _ (marks objectors targets : List ℕ) (reg : Handed marks objectors targets) (head next : List ℕ) (ch : Chained objectors (length objectors) head next) (lim h t y v c k : ℕ) (labels lengths left queue : List ℕ) (r : Run marks objectors targets lim (h + 1) t y c k labels lengths left queue) (ln : Link marks objectors h t y v c k labels lengths queue) (hc : c ≡ 0 → ⊥) where
   here : c - 1 < length objectors
   here = here₁ marks objectors targets reg head next ch lim h t y v c k labels lengths left queue r ln hc
 
@@ -452,7 +454,7 @@ finish marks objectors targets reg h t labels lengths left queue turn ht = recor
     never e = ⊎-elim (λ p. omega (arith, p .1, p .2)) (λ w. omega arith)
 
 -- the place at h is taken up, under the names that the code has for it and for its first link
-pub enter : (marks objectors targets : List ℕ) → Handed marks objectors targets → (lim h t y₀ k₀ v y c : ℕ) (labels lengths left queue head next : List ℕ) → Chained marks objectors (length objectors) head next → Run marks objectors targets lim h t y₀ 0 k₀ labels lengths left queue → h < t → getD labels (getD queue h 0) 0 ≡ v → y ≡ getD queue h 0 → c ≡ getD head y 0 → Run marks objectors targets lim (h + 1) t y c (getD lengths y 0 + 1) labels lengths left queue × Link marks objectors h t y v c (getD lengths y 0 + 1) labels lengths queue
+pub enter : (marks objectors targets : List ℕ) → Handed marks objectors targets → (lim h t y₀ k₀ v y c : ℕ) (labels lengths left queue head next : List ℕ) → Chained objectors (length objectors) head next → Run marks objectors targets lim h t y₀ 0 k₀ labels lengths left queue → h < t → getD labels (getD queue h 0) 0 ≡ v → y ≡ getD queue h 0 → c ≡ getD head y 0 → Run marks objectors targets lim (h + 1) t y c (getD lengths y 0 + 1) labels lengths left queue × Link marks objectors h t y v c (getD lengths y 0 + 1) labels lengths queue
 enter marks objectors targets reg lim h t y₀ k₀ v y c labels lengths left queue head next ch r hh l p q =
     rw (q, p) (pop marks objectors targets reg lim h t y₀ k₀ labels lengths left queue head next ch r hh, link-first marks objectors targets head next ch lim h h t y₀ 0 k₀ v labels lengths left queue r hh l)
 

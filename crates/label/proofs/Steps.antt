@@ -8,7 +8,7 @@ use native.Mathlib.Omega.{arith}
 use native.Mathlib.Decide.{ℕ-discrete}
 use lib.ListN.{length, getD, set}
 use lib.Seq.{getD-set-same, getD-set-other}
-use Rattle.label.specs.Labelled.{Handed}
+use Rattle.chain.specs.Handed.{Handed}
 use Rattle.label.specs.State.{Sound, Blank, zeros}
 
 pub zeros-set : (l : List ℕ) (x v : ℕ) → x < length l → getD l x 0 ≡ 0 → 0 < v → zeros (set l x v) + 1 ≡ zeros l
@@ -111,14 +111,6 @@ module _ (marks objectors targets labels lengths : List ℕ) (x k : ℕ) (hl : x
 
       kp : (y : ℕ) → (getD labels y 0 ≡ 0 → ⊥) → (getD (set labels x 1) y 0 ≡ getD labels y 0) × (getD (set lengths x k) y 0 ≡ getD lengths y 0)
       kp = kept labels lengths x 1 k hl hn z
-
--- below i + 1 is below i, or i
-pub split : {i e : ℕ} → e < i + 1 → (e < i) ⊎ (e ≡ i)
-split {i} {e} h = go (ℕ-discrete e i)
-  where
-    go : Dec (e ≡ i) → (e < i) ⊎ (e ≡ i)
-    go (yes p) = inr p
-    go (no p) = inl (omega arith)
 
 pub below-ne : {x i : ℕ} → x < i → x ≡ i → ⊥
 below-ne h p = omega arith

@@ -1,16 +1,10 @@
--- What the solver asks of the lists, and what it promises: labels and lengths that are the meaning's.
+-- What the solver promises: labels and lengths that are the meaning's.
 use mathlib.Core.List.{List}
 use mathlib.Core.Path.{_≡_}
 use Prim.Native.Nat.{ℕ, _≤_}
 use lib.ListN.{length, getD}
-use Rattle.game.specs.Book.{Book, Listed, InOrder, bookOf}
+use Rattle.game.specs.Book.{Book, Listed, bookOf}
 use Rattle.game.specs.Label.{Told}
-
--- lists in order and within the limits of 01
-pub record Handed (marks objectors targets : List ℕ) : Type 0 where
-  pub few-marks : length marks ≤ 1024
-  pub few-pairs : length objectors ≤ 4096
-  pub order : InOrder marks objectors targets
 
 -- each listed statement has its own label and length
 pub record Labelled (B : Book) (labels lengths : List ℕ) : Type 0 where

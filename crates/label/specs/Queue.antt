@@ -1,4 +1,4 @@
--- States of the queue, the counters and the chains: not for callers.
+-- States of the queue and the counters: not for callers.
 use mathlib.Core.Path.{_≡_}
 use mathlib.Core.Logic.{_⊎_}
 use mathlib.Core.Bool.{Bool, true, false}
@@ -18,15 +18,6 @@ cnt [] done x = 0
 cnt (t ∷ ts) [] x = 0
 cnt (t ∷ ts) (zero ∷ ds) x = one (eqb t x) (cnt ts ds x)
 cnt (t ∷ ts) (suc d ∷ ds) x = cnt ts ds x
-
--- the objections before i are chained by objector, each link counted from 1
-pub record Chained (marks objectors : List ℕ) (i : ℕ) (head next : List ℕ) : Type 0 where
-  pub head-low : (y : ℕ) → y < length marks → getD head y 0 ≤ i
-  pub head-of : (y e : ℕ) → y < length marks → e + 1 ≡ getD head y 0 → getD objectors e 0 ≡ y
-  pub head-last : (y e : ℕ) → y < length marks → e < i → getD objectors e 0 ≡ y → e + 1 ≤ getD head y 0
-  pub next-low : (d : ℕ) → d < i → getD next d 0 ≤ d
-  pub next-of : (d e : ℕ) → d < i → e + 1 ≡ getD next d 0 → getD objectors e 0 ≡ getD objectors d 0
-  pub next-last : (d e : ℕ) → d < i → e < d → getD objectors e 0 ≡ getD objectors d 0 → e + 1 ≤ getD next d 0
 
 -- the objections before i are counted
 pub record Counted (marks targets : List ℕ) (i : ℕ) (left : List ℕ) : Type 0 where

@@ -1,27 +1,20 @@
 // Labels and lengths of lists that are in order, in time linear in statements and objections (retrograde analysis): each
 // objection is looked at once, when the label of its objector is known. The places go through a queue in order of their
 // lengths; what is never reached is open. Whether lists are in order is left to others.
+use chain::chain;
+use chain::place;
+use chain::wide;
 use game::Kind;
 ghost use mathlib.Core.Path.{_≡_};
 ghost use Prim.Native.Nat.{ℕ, _+_, _<_, _≤_};
 ghost use lib.ListN.{length, getD};
 ghost use Rattle.game.specs.Book.{bookOf};
 ghost use Rattle.game.specs.Objection.{OfKind};
-ghost use Rattle.label.specs.Labelled.{Handed, Labelled, Solved};
+ghost use Rattle.chain.specs.Chained.{Chained};
+ghost use Rattle.chain.specs.Handed.{Handed};
+ghost use Rattle.label.specs.Labelled.{Labelled, Solved};
 ghost use Rattle.label.specs.State.{Blank, Rooms};
-ghost use Rattle.label.specs.Queue.{Chained, Counted, Spaces, Turn};
-
-fn wide(x: u16) -> usize
-    ensures { λ r. ⌜ r ≡ x ⌝ }
-{
-    x as usize
-}
-
-fn place(x: u32) -> usize
-    ensures { λ r. ⌜ r ≡ x ⌝ }
-{
-    x as usize
-}
+ghost use Rattle.label.specs.Queue.{Counted, Spaces, Turn};
 
 // Takes every label and length away.
 fn blank(marks: &[u8], labels: &mut [u8], lengths: &mut [u16])
@@ -32,23 +25,6 @@ fn blank(marks: &[u8], labels: &mut [u8], lengths: &mut [u16])
     while i < marks.len() {
         labels[i] = 0;
         lengths[i] = 65535;
-        i += 1;
-    }
-}
-
-// Chains the objections of each objector: head[y] is the last objection of y, next[e] the one before e of the same
-// objector, each counted from 1, 0 for none.
-fn chain(marks: &[u8], objectors: &[u32], targets: &[u32], head: &mut [u16], next: &mut [u16])
-    requires { ⌜ Handed (now marks) (now objectors) (now targets) ⌝ }
-    requires { ⌜ (length (now marks) ≤ length (now head)) × (length (now objectors) ≤ length (now next)) ⌝ }
-    requires { ⌜ ((y : ℕ) → y < length (now marks) → getD (now head) y 0 ≡ 0) ⌝ }
-    ensures { λ _. ⌜ Chained (now (marks .entry)) (now (objectors .entry)) (length (now (objectors .entry))) (now (head .exit)) (now (next .exit)) ⌝ }
-{
-    let mut i = 0;
-    while i < objectors.len() {
-        let y = place(objectors[i]);
-        next[i] = head[y];
-        head[y] = (i + 1) as u16;
         i += 1;
     }
 }
@@ -122,7 +98,7 @@ fn fell(
     requires { ⌜ Handed (now marks) (now objectors) (now targets) ⌝ }
     requires { ⌜ Rooms (now marks) (now labels) (now lengths) ⌝ }
     requires { ⌜ Spaces (now marks) (now objectors) (now head) (now next) (now left) (now queue) ⌝ }
-    requires { ⌜ Chained (now marks) (now objectors) (length (now objectors)) (now head) (now next) ⌝ }
+    requires { ⌜ Chained (now objectors) (length (now objectors)) (now head) (now next) ⌝ }
     requires { ⌜ Turn (now marks) (now objectors) (now targets) h tail (now labels) (now lengths) (now left) (now queue) × (h < tail) × (getD (now labels) (getD (now queue) h 0) 0 ≡ 1) ⌝ }
     ensures { λ r. ⌜ Turn (now (marks .entry)) (now (objectors .entry)) (now (targets .entry)) (h + 1) r (now (labels .exit)) (now (lengths .exit)) (now (left .entry)) (now (queue .exit)) ⌝ }
 {
@@ -161,7 +137,7 @@ fn lift(
     requires { ⌜ Handed (now marks) (now objectors) (now targets) ⌝ }
     requires { ⌜ Rooms (now marks) (now labels) (now lengths) ⌝ }
     requires { ⌜ Spaces (now marks) (now objectors) (now head) (now next) (now left) (now queue) ⌝ }
-    requires { ⌜ Chained (now marks) (now objectors) (length (now objectors)) (now head) (now next) ⌝ }
+    requires { ⌜ Chained (now objectors) (length (now objectors)) (now head) (now next) ⌝ }
     requires { ⌜ Turn (now marks) (now objectors) (now targets) h tail (now labels) (now lengths) (now left) (now queue) × (h < tail) × (getD (now labels) (getD (now queue) h 0) 0 ≡ 2) ⌝ }
     ensures { λ r. ⌜ Turn (now (marks .entry)) (now (objectors .entry)) (now (targets .entry)) (h + 1) r (now (labels .exit)) (now (lengths .exit)) (now (left .exit)) (now (queue .exit)) ⌝ }
 {
@@ -207,7 +183,7 @@ fn run(
     requires { ⌜ Handed (now marks) (now objectors) (now targets) ⌝ }
     requires { ⌜ Rooms (now marks) (now labels) (now lengths) ⌝ }
     requires { ⌜ Spaces (now marks) (now objectors) (now head) (now next) (now left) (now queue) ⌝ }
-    requires { ⌜ Chained (now marks) (now objectors) (length (now objectors)) (now head) (now next) ⌝ }
+    requires { ⌜ Chained (now objectors) (length (now objectors)) (now head) (now next) ⌝ }
     requires { ⌜ Turn (now marks) (now objectors) (now targets) 0 tail (now labels) (now lengths) (now left) (now queue) ⌝ }
     ensures { λ _. ⌜ Labelled (bookOf (now (marks .entry)) (now (objectors .entry)) (now (targets .entry))) (now (labels .exit)) (now (lengths .exit)) ⌝ }
 {
@@ -259,7 +235,7 @@ fn settle(marks: &[u8], objectors: &[u32], targets: &[u32], labels: &mut [u8], l
     let mut next = [0u16; 4096];
     let mut left = [0u16; 1024];
     let mut queue = [0u16; 1024];
-    chain(marks, objectors, targets, &mut head, &mut next);
+    chain(objectors, &mut head, &mut next);
     count(marks, objectors, targets, &mut left);
     blank(marks, labels, lengths);
     let t = start(

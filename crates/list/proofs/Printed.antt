@@ -12,8 +12,8 @@ use Rattle.text.specs.Reads.{Refuses}
 use Rattle.text.proofs.Unique as text
 use Rattle.listing.specs.Listing.{IsListing, refusedRow}
 use Rattle.listing.proofs.Listing.{listing-once, listing-short}
-use Rattle.batqemulo.specs.Texts.{TextListing}
-use Rattle.batqemulo.specs.declared.Answer.the-variants.{Refused, Given}
+use Rattle.on_text.specs.Texts.{TextListing}
+use Rattle.answer.specs.declared.Answer.the-variants.{Refused, Given}
 use Rattle.list.specs.Output.{Prints}
 
 -- what a room begins with
@@ -23,14 +23,14 @@ begins room after l n c e =
 
 module _ (s room after : List ℕ) where
   pub prints-listing : (n : ℕ) → TextListing s room (Given n) after → (n ≤ length after) × Prints s (take n after)
-  prints-listing n (R, a, (l, is, c, h, e)) =
+  prints-listing n (R, a, (l, is, (c, h, e))) =
       let (fits, same) = begins room after l n c e in
       (fits, inl (R, a, subst (IsListing R) (sym same) is))
 
   -- a room of 131,072 bytes is never too short
   refused-text : (r : Refusal) → 131072 ≤ length room → TextListing s room (Refused r) after → Refuses s r
   refused-text r h (inl p, q) = p
-  refused-text r h (inr (R, a, (l, is, short), e), q) = absurd (omega (arith, listing-short s R l a is))
+  refused-text r h (inr (R, a, ((l, is, short), e)), q) = absurd (omega (arith, listing-short s R l a is))
 
   pub prints-refusal : (r : Refusal) (k : ℕ) (printed : List ℕ) → 131072 ≤ length room → TextListing s room (Refused r) after → k ≡ length (refusedRow (numberOf r) (placeOf r)) → printed ≡ refusedRow (numberOf r) (placeOf r) ++ drop (length (refusedRow (numberOf r) (placeOf r))) after → (k ≤ length printed) × Prints s (take k printed)
   prints-refusal r k printed h p c e =

@@ -48,7 +48,7 @@ fn output(text: &[u8], room: &mut [u8]) -> usize
     requires { ⌜ 131072 ≤ length (now room) ⌝ }
     ensures { λ r. ⌜ (r ≤ length (now (room .exit))) × Prints (now (text .entry)) (take r (now (room .exit))) ⌝ }
 {
-    let answer = batqemulo::texts::text_listing(text, room);
+    let answer = batqemulo::text_listing(text, room);
     match answer {
         Answer::Given(n) => n as usize,
         Answer::Refused(refused) => {

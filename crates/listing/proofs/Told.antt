@@ -78,20 +78,20 @@ module _ (R : Register) (nums marks objectors targets labels lengths : List ℕ)
   numbers-counted = length-map (R .statements) (λ (st : StatementLine). st .number)
 
   pub ready-lists : Lists nums marks objectors targets labels lengths
-  ready-lists = rw (ready .numbers-are, ready .marks-are, ready .objectors-are, ready .targets-are) (record {
+  ready-lists = rw (ready .made .numbers-are, ready .made .marks-are, ready .made .objectors-are, ready .made .targets-are) (record {
     handed = record {
-      few-marks = omega (arith, marks-counted R (ready .valid), ready .valid .few-statements);
-      few-pairs = omega (arith, objectors-counted R (ready .valid), ready .valid .few-objections);
-      order = register-in-order R (ready .valid);
+      few-marks = omega (arith, marks-counted R (ready .made .valid), ready .made .valid .few-statements);
+      few-pairs = omega (arith, objectors-counted R (ready .made .valid), ready .made .valid .few-objections);
+      order = register-in-order R (ready .made .valid);
     };
-    numbered = numbers-counted ∙ sym (marks-counted R (ready .valid));
-    labels-room = omega (arith, marks-counted R (ready .valid), ready .labels-room);
-    lengths-room = omega (arith, marks-counted R (ready .valid), ready .lengths-room);
+    numbered = numbers-counted ∙ sym (marks-counted R (ready .made .valid));
+    labels-room = omega (arith, marks-counted R (ready .made .valid), ready .labels-room);
+    lengths-room = omega (arith, marks-counted R (ready .made .valid), ready .lengths-room);
     labelled = ready .labelled;
   })
 
   own : Lists (numbers R) (marksOf R) (objectorsOf R) (targetsOf R) labels lengths
-  own = rw (ready .numbers-are, ready .marks-are, ready .objectors-are, ready .targets-are) at ready-lists
+  own = rw (ready .made .numbers-are, ready .made .marks-are, ready .made .objectors-are, ready .made .targets-are) at ready-lists
 
   -- the number at an entry's place is the number on its line
   holds : Holds R (length (R .statements)) (length (R .objections)) (numbers R) (marksOf R) (objectorsOf R) (targetsOf R)
@@ -99,25 +99,25 @@ module _ (R : Register) (nums marks objectors targets labels lengths : List ℕ)
     statements = refl;
     objections = refl;
     numbers-are = take-all (length (R .statements)) (numbers R) (omega (arith, numbers-counted));
-    marks-are = take-all (length (R .statements)) (marksOf R) (omega (arith, marks-counted R (ready .valid)));
-    objectors-are = take-all (length (R .objections)) (objectorsOf R) (omega (arith, objectors-counted R (ready .valid)));
-    targets-are = take-all (length (R .objections)) (targetsOf R) (omega (arith, targets-counted R (ready .valid)));
+    marks-are = take-all (length (R .statements)) (marksOf R) (omega (arith, marks-counted R (ready .made .valid)));
+    objectors-are = take-all (length (R .objections)) (objectorsOf R) (omega (arith, objectors-counted R (ready .made .valid)));
+    targets-are = take-all (length (R .objections)) (targetsOf R) (omega (arith, targets-counted R (ready .made .valid)));
   }
 
   at-place : (v : ℕ) → Issued R v → getD (numbers R) (placeOf (numbers R) v) 0 ≡ v
   at-place v (i, l, e) =
-      ap (λ p. getD (numbers R) p 0) (place-is R (length (R .statements)) (length (R .objections)) (numbers R) (marksOf R) (objectorsOf R) (targetsOf R) holds v i (omega (arith, numbers-counted), e) (λ j k q. ready .valid .once j i k l (q ∙ sym e)))
+      ap (λ p. getD (numbers R) p 0) (place-is R (length (R .statements)) (length (R .objections)) (numbers R) (marksOf R) (objectorsOf R) (targetsOf R) holds v i (omega (arith, numbers-counted), e) (λ j k q. ready .made .valid .once j i k l (q ∙ sym e)))
       ∙ e
 
   objector-number : (k : ℕ) → k < length (R .objections) → getD (numbers R) (getD (objectorsOf R) k 0) 0 ≡ getD (objectorNumbers R) k 0
   objector-number k h =
       ap (λ p. getD (numbers R) p 0) (objector-entry R (length (R .statements)) (length (R .objections)) (numbers R) (marksOf R) (objectorsOf R) (targetsOf R) holds k h)
-      ∙ at-place (getD (objectorNumbers R) k 0) (ready .valid .known k h .0)
+      ∙ at-place (getD (objectorNumbers R) k 0) (ready .made .valid .known k h .0)
 
   target-number : (k : ℕ) → k < length (R .objections) → getD (numbers R) (getD (targetsOf R) k 0) 0 ≡ getD (targetNumbers R) k 0
   target-number k h =
       ap (λ p. getD (numbers R) p 0) (target-entry R (length (R .statements)) (length (R .objections)) (numbers R) (marksOf R) (objectorsOf R) (targetsOf R) holds k h)
-      ∙ at-place (getD (targetNumbers R) k 0) (ready .valid .known k h .1)
+      ∙ at-place (getD (targetNumbers R) k 0) (ready .made .valid .known k h .1)
 
   abbrev vs : ℕ → Verdict
   vs = verdictAt labels lengths
@@ -132,13 +132,13 @@ module _ (R : Register) (nums marks objectors targets labels lengths : List ℕ)
   objections-same : objectionPart (numbers R) (objectorsOf R) (targetsOf R) labels lengths ≡ objectionRows (R .objections) (upTo (length (R .objections)) κs)
   unfolding objectionPart
   objections-same =
-      ap (λ m. rowsTo m (objectionAt (numbers R) (objectorsOf R) (targetsOf R) labels lengths)) (objectors-counted R (ready .valid))
+      ap (λ m. rowsTo m (objectionAt (numbers R) (objectorsOf R) (targetsOf R) labels lengths)) (objectors-counted R (ready .made .valid))
       ∙ rows-same (length (R .objections)) (objectionAt (numbers R) (objectorsOf R) (targetsOf R) labels lengths) (λ k. objectionRow (getD (objectorNumbers R) k 0) (getD (targetNumbers R) k 0) (κs k)) (λ k h. ap₂ (λ y x. objectionRow y x (κs k)) (objector-number k h) (target-number k h))
       ∙ sym (objection-rows (R .objections) κs)
 
   whole-same : whole (numbers R) (objectorsOf R) (targetsOf R) labels lengths ≡ listing R (upTo (length (R .statements)) vs) (upTo (length (R .objections)) κs)
   unfolding whole
-  whole-same = ap₂ (λ a b. a ++ b) (ap₂ header numbers-counted (objectors-counted R (ready .valid))) (ap₂ (λ a b. a ++ b) statements-same objections-same)
+  whole-same = ap₂ (λ a b. a ++ b) (ap₂ header numbers-counted (objectors-counted R (ready .made .valid))) (ap₂ (λ a b. a ++ b) statements-same objections-same)
 
   own-listing : IsListing R (whole (numbers R) (objectorsOf R) (targetsOf R) labels lengths)
   own-listing = record {
@@ -146,10 +146,10 @@ module _ (R : Register) (nums marks objectors targets labels lengths : List ℕ)
     kinds = upTo (length (R .objections)) κs;
     verdict-each = length-upTo (length (R .statements)) vs;
     kind-each = length-upTo (length (R .objections)) κs;
-    means = λ x h. rw (getD-upTo (length (R .statements)) vs is-open x h) (verdict-told (numbers R) (marksOf R) (objectorsOf R) (targetsOf R) labels lengths own x (omega (arith, marks-counted R (ready .valid))));
-    of-kind = λ k h. rw (getD-upTo (length (R .objections)) κs Idle k h) (kind-of-entry (numbers R) (marksOf R) (objectorsOf R) (targetsOf R) labels lengths own k (omega (arith, objectors-counted R (ready .valid))));
+    means = λ x h. rw (getD-upTo (length (R .statements)) vs is-open x h) (verdict-told (numbers R) (marksOf R) (objectorsOf R) (targetsOf R) labels lengths own x (omega (arith, marks-counted R (ready .made .valid))));
+    of-kind = λ k h. rw (getD-upTo (length (R .objections)) κs Idle k h) (kind-of-entry (numbers R) (marksOf R) (objectorsOf R) (targetsOf R) labels lengths own k (omega (arith, objectors-counted R (ready .made .valid))));
     is = whole-same;
   }
 
   pub ready-listing : IsListing R (whole nums objectors targets labels lengths)
-  ready-listing = rw (ready .numbers-are, ready .objectors-are, ready .targets-are) own-listing
+  ready-listing = rw (ready .made .numbers-are, ready .made .objectors-are, ready .made .targets-are) own-listing

@@ -9,11 +9,12 @@ use Rattle.game.specs.Label.{Verdict, is-open, stands, falls, Means}
 use Rattle.game.specs.Objection.{OfKind}
 use Rattle.game.specs.declared.Kind.{Kind}
 use Rattle.game.specs.declared.Kind.the-variants.{Idle, Felling, Delaying, Standoff}
+use Rattle.text.specs.State.{Made}
 use Rattle.label.specs.Labelled.{Labelled}
 use Rattle.line.specs.Number.{decimal, numberBytes}
 use Rattle.line.specs.declared.StatementLine.{StatementLine}
 use Rattle.line.specs.declared.ObjectionLine.{ObjectionLine}
-use Rattle.text.specs.Register.{Register, Valid, numbers, marksOf, objectorsOf, targetsOf, book}
+use Rattle.text.specs.Register.{Register, numbers, objectorsOf, targetsOf, book}
 
 -- `REGISTER`
 abbrev pub registerWord : List ℕ
@@ -95,11 +96,7 @@ pub record IsListing (R : Register) (l : List ℕ) : Type 0 where
 -- What the program is given: a register that is in order, as lists of just its length, with the labels and lengths of its
 -- statements in lists of that length or longer.
 pub record Ready (R : Register) (nums marks objectors targets labels lengths : List ℕ) : Type 0 where
-  pub valid : Valid R
-  pub numbers-are : nums ≡ numbers R
-  pub marks-are : marks ≡ marksOf R
-  pub objectors-are : objectors ≡ objectorsOf R
-  pub targets-are : targets ≡ targetsOf R
+  pub made : Made R nums marks objectors targets
   pub labels-room : length (R .statements) ≤ length labels
   pub lengths-room : length (R .statements) ≤ length lengths
   pub labelled : Labelled (book R) labels lengths

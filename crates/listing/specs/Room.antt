@@ -12,7 +12,8 @@ use Rattle.game.specs.Label.{Verdict, is-open, stands, falls}
 use Rattle.game.specs.Objection.{kindOf}
 use Rattle.game.specs.declared.Kind.{Kind}
 use Rattle.game.specs.declared.Kind.the-variants.{Idle}
-use Rattle.label.specs.Labelled.{Handed, Labelled}
+use Rattle.chain.specs.Handed.{Handed}
+use Rattle.label.specs.Labelled.{Labelled}
 use Rattle.listing.specs.Listing.{labelWord, lengthField, kindWord, kindField, header, statementRow, objectionRow}
 
 -- a room after bytes were written at a place: those before it and those behind stay as found

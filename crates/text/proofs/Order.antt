@@ -27,6 +27,12 @@ place-listed (a ∷ ns) v i l e = go (ℕ-discrete a v) i l e (λ j k q. place-l
     go (no p) zero l e f = absurd (p e)
     go (no p) (suc i) l e f = rw (ne-eqb a v p) (let h : placeOf ns v < length ns = f i (le-of-suc-le-suc l) e in omega arith)
 
+-- an entry of a mapped list
+pub mapped : (f : ℕ → ℕ) (u : List ℕ) (i : ℕ) → i < length u → getD (map f u) i 0 ≡ f (getD u i 0)
+mapped f [] i k = absurd (not-suc-le-zero k)
+mapped f (a ∷ u) zero k = refl
+mapped f (a ∷ u) (suc i) k = mapped f u i (le-of-suc-le-suc k)
+
 module _ (R : Register) (valid : Valid R) where
   -- as many marks as numbers, and as many objectors and targets as objections
   pub marks-counted : length (marksOf R) ≡ length (R .statements)
@@ -38,13 +44,8 @@ module _ (R : Register) (valid : Valid R) where
   pub targets-counted : length (targetsOf R) ≡ length (R .objections)
   targets-counted = length-map (targetNumbers R) (placeOf (numbers R)) ∙ length-map (R .objections) (λ (o : ObjectionLine). o .target)
 
-  numbers-counted : length (numbers R) ≡ length (marksOf R)
+  pub numbers-counted : length (numbers R) ≡ length (marksOf R)
   numbers-counted = length-map (R .statements) (λ (st : StatementLine). st .number) ∙ sym marks-counted
-
-  mapped : (u : List ℕ) (i : ℕ) → i < length u → getD (map (placeOf (numbers R)) u) i 0 ≡ placeOf (numbers R) (getD u i 0)
-  mapped [] i k = absurd (not-suc-le-zero k)
-  mapped (a ∷ u) zero k = refl
-  mapped (a ∷ u) (suc i) k = mapped u i (le-of-suc-le-suc k)
 
   listed : (v : ℕ) → Issued R v → placeOf (numbers R) v < length (marksOf R)
   listed v (i, l, e) = omega (arith, place-listed (numbers R) v i l e, numbers-counted)
@@ -62,6 +63,6 @@ module _ (R : Register) (valid : Valid R) where
   register-in-order = record {
     paired = targets-counted ∙ sym objectors-counted;
     marked = λ x h. low-marks (R .statements) x;
-    objector = λ k h. rw (mapped (objectorNumbers R) k (omega (arith, h, objectors-counted, length-map (R .objections) (λ (o : ObjectionLine). o .objector)))) (listed (getD (objectorNumbers R) k 0) (valid .known k (omega (arith, h, objectors-counted)) .0));
-    target = λ k h. rw (mapped (targetNumbers R) k (omega (arith, h, objectors-counted, length-map (R .objections) (λ (o : ObjectionLine). o .target)))) (listed (getD (targetNumbers R) k 0) (valid .known k (omega (arith, h, objectors-counted)) .1));
+    objector = λ k h. rw (mapped (placeOf (numbers R)) (objectorNumbers R) k (omega (arith, h, objectors-counted, length-map (R .objections) (λ (o : ObjectionLine). o .objector)))) (listed (getD (objectorNumbers R) k 0) (valid .known k (omega (arith, h, objectors-counted)) .0));
+    target = λ k h. rw (mapped (placeOf (numbers R)) (targetNumbers R) k (omega (arith, h, objectors-counted, length-map (R .objections) (λ (o : ObjectionLine). o .target)))) (listed (getD (targetNumbers R) k 0) (valid .known k (omega (arith, h, objectors-counted)) .1));
   }

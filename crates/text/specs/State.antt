@@ -8,7 +8,7 @@ use Rattle.line.specs.Lines.{markNumber}
 use Rattle.line.specs.declared.StatementLine.{StatementLine}
 use Rattle.line.specs.declared.ObjectionLine.{ObjectionLine}
 use Rattle.refusal.specs.declared.Refusal.the-variants.{Late, Issued, Statements, Unknown, Repeated, Objections}
-use Rattle.text.specs.Register.{Register, numbers, marksOf, objectorsOf, targetsOf}
+use Rattle.text.specs.Register.{Register, Valid, numbers, marksOf, objectorsOf, targetsOf}
 use Rattle.text.specs.Reads.{Accepts, Refuses}
 use Rattle.text.specs.declared.Reading.{Reading}
 use Rattle.text.specs.declared.Reading.the-variants.{Whole, Refused}
@@ -24,6 +24,14 @@ pub record Holds (R : Register) (n m : ℕ) (nums marks objectors targets : List
   pub marks-are : take n marks ≡ marksOf R
   pub objectors-are : take m objectors ≡ objectorsOf R
   pub targets-are : take m targets ≡ targetsOf R
+
+-- the lists are the register's own
+pub record Made (R : Register) (nums marks objectors targets : List ℕ) : Type 0 where
+  pub valid : Valid R
+  pub numbers-are : nums ≡ numbers R
+  pub marks-are : marks ≡ marksOf R
+  pub objectors-are : objectors ≡ objectorsOf R
+  pub targets-are : targets ≡ targetsOf R
 
 -- the rooms are long enough for any register
 pub record Spacious (nums marks objectors targets : List ℕ) : Type 0 where

@@ -66,6 +66,12 @@ impl Draft {
         self.in_draft_order()
     }
 
+    /// The register with its pairs in the opposite order.
+    pub fn reversed(mut self) -> Lists {
+        self.pairs.reverse();
+        self.in_draft_order()
+    }
+
     /// The register with its statements and pairs in the order in which they were added.
     pub fn in_draft_order(self) -> Lists {
         Lists::new(self.marks, &self.pairs)

@@ -84,12 +84,19 @@ const fn example(name: &'static str, text: &'static str, print: &'static str) ->
 }
 
 impl Example {
+    /// The example with this name, which there must be.
+    pub fn named(name: &str) -> &'static Self {
+        let mut examples = EXAMPLES.iter();
+        let found = examples.find(|example| example.name == name);
+        found.expect("an example with this name")
+    }
+
     pub fn text(&self) -> Text {
-        Text(self.text.replace(' ', "\t").into_bytes())
+        Text::typed(self.text)
     }
 
     /// What the program prints.
     pub fn print(&self) -> Vec<u8> {
-        self.print.replace(' ', "\t").into_bytes()
+        Text::typed(self.print).0
     }
 }

@@ -1,6 +1,7 @@
 //! A register as lists of pairs, the way a caller hands it over. Whether it is sound is for the
 //! library and the second solver to say, so anything can be put into one of these.
 
+use crate::random::Random;
 use std::fmt;
 
 /// How many entries of a list are shown where a test failed.
@@ -33,6 +34,13 @@ impl Lists {
     pub fn objections(&self) -> impl Iterator<Item = (usize, usize)> + '_ {
         self.pairs()
             .map(|(objector, target)| (objector as usize, target as usize))
+    }
+
+    /// The same register with its pairs in a random order.
+    pub fn reordered(&self, random: &mut Random) -> Self {
+        let mut pairs: Vec<(u32, u32)> = self.pairs().collect();
+        random.shuffle(&mut pairs);
+        Lists::new(self.marks.clone(), &pairs)
     }
 
     pub fn set_pair(&mut self, entry: usize, pair: (u32, u32)) {

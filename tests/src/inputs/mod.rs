@@ -2,10 +2,12 @@
 //! of document 01 and of the folder examples, as lists and as texts; damaged texts; and rooms of
 //! many lengths.
 
+pub mod crafted;
 pub mod damage;
 pub mod draft;
 pub mod examples;
 pub mod files;
+pub mod handed;
 pub mod lists;
 pub mod numbers;
 pub mod page;
@@ -14,3 +16,4 @@ pub mod shapes;
 pub mod small;
 pub mod spoiled;
 pub mod text;
+pub mod written;

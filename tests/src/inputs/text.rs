@@ -11,6 +11,11 @@ const SHOWN: usize = 240;
 pub struct Text(pub Vec<u8>);
 
 impl Text {
+    /// A text that was typed with spaces for its tabs, as 01 shows it.
+    pub fn typed(words: &str) -> Self {
+        Text(words.replace(' ', "\t").into_bytes())
+    }
+
     /// These lines, each ended by byte 10.
     pub fn of_lines<L: AsRef<[u8]>>(lines: &[L]) -> Self {
         let ended = |line: &L| [line.as_ref(), b"\n"].concat();

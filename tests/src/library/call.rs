@@ -5,7 +5,9 @@ use super::array::{Array, Room};
 use crate::inputs::lists::Lists;
 use crate::inputs::rooms;
 use crate::inputs::text::Text;
-use crate::second::expected::{Expected, Question};
+use crate::second::exercise::MOST_TURNS;
+use crate::second::expected::{Asked, Expected, Question};
+use crate::second::verdict::NO_LENGTH;
 
 /// Pairs are handed over as objectors and targets, moves as from (target) and to (objector).
 #[derive(Clone, Copy)]
@@ -67,26 +69,54 @@ pub fn room_widths(question: Question) -> &'static [usize] {
         Question::Lengths => &[2],
         Question::Kinds => &[1, 2],
         Question::Listing => &[1],
+        Question::Of(Asked::Line { .. }) => &[4],
+        Question::Of(Asked::Exercise { .. }) => &[],
     }
 }
 
+/// What is asked of one statement where any will do: the line and the exercise of the one with the
+/// greatest length, and turns that just suffice, if any do. Without statements it is one that is
+/// not there.
+pub fn of_longest(expected: &Expected) -> [Asked; 2] {
+    let lengths = expected.verdicts.iter().map(|verdict| verdict.length());
+    let numbers = expected.register.numbers.iter().copied();
+    let known = lengths.map(|length| if length == NO_LENGTH { 0 } else { length });
+    let (length, statement) = known.zip(numbers).max().unwrap_or((0, 1));
+    let turns = length.min(MOST_TURNS);
+    [
+        Asked::Line { statement },
+        Asked::Exercise { statement, turns },
+    ]
+}
+
 impl ListCall {
+    /// The call that asks this of one statement of pairs.
+    pub fn asking(asked: Asked) -> Self {
+        let (name, number) = match asked {
+            Asked::Line { .. } => ("pairs_line", 5),
+            Asked::Exercise { .. } => ("pairs_exercise", 6),
+        };
+        list_call(name, number, Form::Pairs, Question::Of(asked))
+    }
+
     /// How many rooms it takes.
     pub fn rooms(&self) -> usize {
         room_widths(self.question).len()
     }
 
-    /// How many entries the answer has in each room, if these lists are accepted.
-    pub fn answer_length(&self, lists: &Lists) -> usize {
-        match self.question {
-            Question::Kinds => lists.objectors.len(),
+    /// How many entries the answer to these lists has in each room. For refused lists it is what it
+    /// would be if they were accepted, or more, so that there is something to be left as found.
+    pub fn answer_length(&self, lists: &Lists, expected: &Expected) -> usize {
+        match (self.question, expected.refusal) {
+            (Question::Of(_), None) => expected.answer_length(self.question),
+            (Question::Kinds, _) => lists.objectors.len(),
             _ => lists.marks.len(),
         }
     }
 
     /// Every room just as long as the answer.
-    pub fn fitting(&self, lists: &Lists) -> Vec<Room> {
-        rooms::fitting(self.rooms(), self.answer_length(lists))
+    pub fn fitting(&self, lists: &Lists, expected: &Expected) -> Vec<Room> {
+        rooms::fitting(self.rooms(), self.answer_length(lists, expected))
     }
 
     /// The lists in the order in which this call takes them.
@@ -105,6 +135,15 @@ impl ListCall {
 }
 
 impl TextCall {
+    /// The call that asks this of one statement of a text.
+    pub fn asking(asked: Asked) -> Self {
+        let (name, number) = match asked {
+            Asked::Line { .. } => ("text_line", 23),
+            Asked::Exercise { .. } => ("text_exercise", 24),
+        };
+        text_call(name, number, Question::Of(asked))
+    }
+
     /// How many entries the answer to this text has. For a refused text it is an entry for each
     /// line and one more, so that there is something to be left as found.
     pub fn answer_length(&self, text: &Text, expected: &Expected) -> usize {
@@ -114,9 +153,14 @@ impl TextCall {
         }
     }
 
+    /// So many entries in the room, if it takes one.
+    pub fn lent(&self, length: usize) -> Vec<Room> {
+        rooms::fitting(room_widths(self.question).len(), length)
+    }
+
     /// The room just as long as the answer.
     pub fn fitting(&self, text: &Text, expected: &Expected) -> Vec<Room> {
-        vec![Room::Of(self.answer_length(text, expected))]
+        self.lent(self.answer_length(text, expected))
     }
 
     pub fn inputs(&self, text: &Text) -> Vec<Array> {

@@ -12,6 +12,13 @@ pub struct Caller {
     replies: ChildStdout,
 }
 
+/// A call by its number, and the statement and the turns that are asked, for a call that asks them.
+#[derive(Clone, Copy)]
+pub struct Request {
+    pub call: u32,
+    pub asked: (u32, u32),
+}
+
 /// The two numbers of an answer, and the bytes of every array after the call.
 pub struct Reply {
     pub refusal: u32,
@@ -39,8 +46,8 @@ impl Caller {
     }
 
     /// Makes one call. A call that ends the caller is an error, and the next call finds a new one.
-    pub fn call(&mut self, number: u32, arrays: &[Array]) -> Result<Reply, String> {
-        self.exchange(number, arrays).or_else(|error| {
+    pub fn call(&mut self, request: Request, arrays: &[Array]) -> Result<Reply, String> {
+        self.exchange(request, arrays).or_else(|error| {
             let ended = self.process.wait();
             *self = Caller::start(&self.command)?;
             match ended {
@@ -50,14 +57,15 @@ impl Caller {
         })
     }
 
-    fn exchange(&mut self, number: u32, arrays: &[Array]) -> Result<Reply, Error> {
-        let mut request = Vec::new();
-        put(&mut request, &[number, arrays.len() as u32]);
+    fn exchange(&mut self, request: Request, arrays: &[Array]) -> Result<Reply, Error> {
+        let Request { call, asked } = request;
+        let mut bytes = Vec::new();
+        put(&mut bytes, &[call, asked.0, asked.1, arrays.len() as u32]);
         for array in arrays {
-            put(&mut request, &array.shape());
-            request.extend(array.bytes());
+            put(&mut bytes, &array.shape());
+            bytes.extend(array.bytes());
         }
-        self.requests.write_all(&request)?;
+        self.requests.write_all(&bytes)?;
         let refusal = self.take_number()?;
         let value = self.take_number()?;
         let mut after = Vec::new();
@@ -80,8 +88,8 @@ impl Caller {
     }
 }
 
-fn put(request: &mut Vec<u8>, numbers: &[u32]) {
+fn put(bytes: &mut Vec<u8>, numbers: &[u32]) {
     for number in numbers {
-        request.extend_from_slice(&number.to_le_bytes());
+        bytes.extend_from_slice(&number.to_le_bytes());
     }
 }

@@ -2,11 +2,12 @@
 //! numbers of the answer, every entry of every room, the guards, and that no input has changed.
 
 use super::array::{Array, Room};
-use super::call::{room_widths, ListCall, TextCall, LIST_CALLS, TEXT_CALLS};
-use super::caller::Caller;
+use super::call::{of_longest, room_widths, ListCall, TextCall, LIST_CALLS, TEXT_CALLS};
+use super::caller::{Caller, Request};
+use crate::inputs::handed::Handed;
 use crate::inputs::lists::Lists;
 use crate::inputs::text::Text;
-use crate::second::expected::{Answer, Expected, Question};
+use crate::second::expected::{Asked, Expected, Question};
 
 pub struct Session {
     caller: Caller,
@@ -34,8 +35,10 @@ impl Session {
     /// Holds every call on lists, with rooms of just the answer's length.
     pub fn hold_lists(&mut self, lists: &Lists) -> Result<(), String> {
         let expected = Expected::of_lists(lists);
-        for call in &LIST_CALLS {
-            self.hold_list_call(call, lists, &expected, &call.fitting(lists))?;
+        let asking = of_longest(&expected).map(ListCall::asking);
+        for call in LIST_CALLS.iter().chain(&asking) {
+            let rooms = call.fitting(lists, &expected);
+            self.hold_list_call(call, lists, &expected, &rooms)?;
         }
         Ok(())
     }
@@ -43,10 +46,52 @@ impl Session {
     /// Holds every call on a text, with rooms of just the answer's length.
     pub fn hold_text(&mut self, text: &Text) -> Result<(), String> {
         let expected = Expected::of_text(text);
-        for call in &TEXT_CALLS {
-            self.hold_text_call(call, text, &expected, &call.fitting(text, &expected))?;
+        let asking = of_longest(&expected).map(TextCall::asking);
+        for call in TEXT_CALLS.iter().chain(&asking) {
+            let rooms = call.fitting(text, &expected);
+            self.hold_text_call(call, text, &expected, &rooms)?;
         }
         Ok(())
+    }
+
+    /// Holds the line of argument of one statement with this room.
+    pub fn hold_line(
+        &mut self,
+        handed: &Handed,
+        expected: &Expected,
+        statement: u32,
+        room: Room,
+    ) -> Result<(), String> {
+        self.hold_asked(handed, expected, Asked::Line { statement }, &[room])
+    }
+
+    /// Holds the class exercise on one statement.
+    pub fn hold_exercise(
+        &mut self,
+        handed: &Handed,
+        expected: &Expected,
+        statement: u32,
+        turns: u32,
+    ) -> Result<(), String> {
+        let asked = Asked::Exercise { statement, turns };
+        self.hold_asked(handed, expected, asked, &[])
+    }
+
+    fn hold_asked(
+        &mut self,
+        handed: &Handed,
+        expected: &Expected,
+        asked: Asked,
+        rooms: &[Room],
+    ) -> Result<(), String> {
+        match handed {
+            Handed::Lists(lists) => {
+                self.hold_list_call(&ListCall::asking(asked), lists, expected, rooms)
+            }
+            Handed::Text(text) => {
+                self.hold_text_call(&TextCall::asking(asked), text, expected, rooms)
+            }
+        }
     }
 
     /// Holds one call on lists with these rooms.
@@ -57,10 +102,9 @@ impl Session {
         expected: &Expected,
         rooms: &[Room],
     ) -> Result<(), String> {
-        let answer = expected.answer(call.question, &lengths(rooms));
-        let lent = lent(call.question, rooms);
-        self.compare(call.number, call.inputs(lists), lent, &answer)
-            .map_err(|what| format!("{} of {lists}; rooms {rooms:?}: {what}", call.name))
+        let ListCall { name, question, .. } = call;
+        self.compare(call.number, *question, call.inputs(lists), expected, rooms)
+            .map_err(|what| format!("{name}, {question:?}, {lists}; rooms {rooms:?}: {what}"))
     }
 
     /// Holds one call on a text with these rooms.
@@ -71,22 +115,25 @@ impl Session {
         expected: &Expected,
         rooms: &[Room],
     ) -> Result<(), String> {
-        let answer = expected.answer(call.question, &lengths(rooms));
-        let lent = lent(call.question, rooms);
-        self.compare(call.number, call.inputs(text), lent, &answer)
-            .map_err(|what| format!("{} of {text}; rooms {rooms:?}: {what}", call.name))
+        let TextCall { name, question, .. } = call;
+        self.compare(call.number, *question, call.inputs(text), expected, rooms)
+            .map_err(|what| format!("{name}, {question:?}, {text}; rooms {rooms:?}: {what}"))
     }
 
     fn compare(
         &mut self,
-        number: u32,
+        call: u32,
+        question: Question,
         inputs: Vec<Array>,
-        rooms: Vec<Array>,
-        answer: &Answer,
+        expected: &Expected,
+        rooms: &[Room],
     ) -> Result<(), String> {
         self.count();
-        let given = [inputs.clone(), rooms.clone()].concat();
-        let reply = self.caller.call(number, &given)?;
+        let answer = expected.answer(question, &lengths(rooms));
+        let lent = lent(question, rooms);
+        let asked = question.numbers();
+        let given = [inputs.clone(), lent.clone()].concat();
+        let reply = self.caller.call(Request { call, asked }, &given)?;
         if (reply.refusal, reply.value) != (answer.refusal, answer.value) {
             return Err(format!(
                 "answered {} {} instead of {} {}",
@@ -97,7 +144,7 @@ impl Session {
         for (at, (input, after)) in inputs.iter().zip(inputs_after).enumerate() {
             input.held_against(after, &format!("input {at}"))?;
         }
-        for (at, (room, after)) in rooms.iter().zip(rooms_after).enumerate() {
+        for (at, (room, after)) in lent.iter().zip(rooms_after).enumerate() {
             let right = room.starting_with(&answer.rooms[at]);
             right.held_against(after, &format!("room {at}"))?;
         }

@@ -1,10 +1,12 @@
 //! What each call ought to answer to one input: worked out once, then asked for every question and
 //! every length of the rooms.
 
-use super::refusals::{self, Refusal, SHORT_ROOM};
+use super::exercise::MOST_TURNS;
+use super::refusals::{self, Refusal, SHORT_ROOM, TOO_MANY_TURNS, UNKNOWN_STATEMENT};
 use super::register::{self, Register};
 use super::verdict::Verdict;
-use super::{kinds, listing, rounds};
+use super::{argument, exercise, kinds, listing, rounds};
+use crate::inputs::handed::Handed;
 use crate::inputs::lists::Lists;
 use crate::inputs::text::Text;
 
@@ -15,6 +17,25 @@ pub enum Question {
     Lengths,
     Kinds,
     Listing,
+    Of(Asked),
+}
+
+/// What is asked of one statement, which is told by number for a text and by place for lists.
+#[derive(Clone, Copy, Debug, PartialEq, Eq)]
+pub enum Asked {
+    Line { statement: u32 },
+    Exercise { statement: u32, turns: u32 },
+}
+
+impl Question {
+    /// The statement and the turns that are asked, 0 where none are.
+    pub fn numbers(self) -> (u32, u32) {
+        match self {
+            Question::Of(Asked::Line { statement }) => (statement, 0),
+            Question::Of(Asked::Exercise { statement, turns }) => (statement, turns),
+            _ => (0, 0),
+        }
+    }
 }
 
 /// The answer to one input. All but the refusal is empty where there is one.
@@ -34,6 +55,13 @@ pub struct Answer {
 }
 
 impl Expected {
+    pub fn of(handed: &Handed) -> Self {
+        match handed {
+            Handed::Lists(lists) => Expected::of_lists(lists),
+            Handed::Text(text) => Expected::of_text(text),
+        }
+    }
+
     pub fn of_lists(lists: &Lists) -> Self {
         match refusals::of_lists(lists) {
             Some(refusal) => Expected::refused(refusal),
@@ -75,19 +103,23 @@ impl Expected {
         self.refusal.map_or((0, 0), numbers)
     }
 
-    /// The answer where the rooms have these lengths.
+    /// The answer where the rooms have these lengths: the first of 01's rows that applies, each of
+    /// which says so whatever else is wrong, or what was asked for.
     pub fn answer(&self, question: Question, room_lengths: &[usize]) -> Answer {
         let rooms = self.entries(question);
+        let (_, turns) = question.numbers();
         let short = |(room, length): (&Vec<u32>, &usize)| *length < room.len();
-        let refusal = match self.refusal {
-            Some(refusal) => Some(refusal),
-            None if rooms.iter().zip(room_lengths).any(short) => Some(SHORT_ROOM),
-            None => None,
-        };
-        match refusal {
+        let is_short = rooms.iter().zip(room_lengths).any(short);
+        let rows = [
+            self.refusal,
+            self.is_unknown(question).then_some(UNKNOWN_STATEMENT),
+            (turns > MOST_TURNS).then_some(TOO_MANY_TURNS),
+            is_short.then_some(SHORT_ROOM),
+        ];
+        match rows.into_iter().flatten().next() {
             None => Answer {
                 refusal: 0,
-                value: rooms[0].len() as u32,
+                value: self.value(question, &rooms),
                 rooms,
             },
             Some(Refusal { number, place }) => Answer {
@@ -98,9 +130,9 @@ impl Expected {
         }
     }
 
-    /// How many entries each room gets if the call is accepted.
+    /// How many entries each room gets if the call is accepted; without rooms there are none.
     pub fn answer_length(&self, question: Question) -> usize {
-        self.entries(question)[0].len()
+        self.entries(question).first().map_or(0, Vec::len)
     }
 
     /// What each room gets if the call is accepted.
@@ -117,6 +149,41 @@ impl Expected {
                 let bytes = listing::print(self).into_iter();
                 vec![bytes.map(u32::from).collect()]
             }
+            Question::Of(Asked::Line { statement }) => vec![self.line(statement)],
+            Question::Of(Asked::Exercise { .. }) => Vec::new(),
         }
+    }
+
+    /// The second number of the answer if the call is accepted and the rooms get this.
+    fn value(&self, question: Question, rooms: &[Vec<u32>]) -> u32 {
+        match question {
+            Question::Of(Asked::Exercise { statement, turns }) => self.within(statement, turns),
+            _ => rooms[0].len() as u32,
+        }
+    }
+
+    /// Where this statement is listed, if it is.
+    fn place(&self, statement: u32) -> Option<usize> {
+        let mut numbers = self.register.numbers.iter();
+        numbers.position(|number| *number == statement)
+    }
+
+    fn is_unknown(&self, question: Question) -> bool {
+        let (statement, _) = question.numbers();
+        matches!(question, Question::Of(_)) && self.place(statement).is_none()
+    }
+
+    /// The line of argument of this statement, or nothing where there is no such statement.
+    pub fn line(&self, statement: u32) -> Vec<u32> {
+        let of_place = |place| argument::line(&self.register.lists, &self.verdicts, place);
+        let places = self.place(statement).map_or(Vec::new(), of_place);
+        let number = |place: &usize| self.register.numbers[*place];
+        places.iter().map(number).collect()
+    }
+
+    /// The class exercise on this statement, or 0 where there is no such statement.
+    pub fn within(&self, statement: u32, turns: u32) -> u32 {
+        let of_place = |place: usize| exercise::within(self.verdicts[place], turns);
+        self.place(statement).map_or(0, of_place)
     }
 }

@@ -1,6 +1,6 @@
-//! Labels and lengths straight from the game of demand 2: all choices of one objection for each
-//! statement are tried, and all plays in which a speaker keeps to one. That is far too slow but for
-//! the smallest registers, and there it checks the other solver.
+//! Labels, lengths and the class exercise straight from the game of demand 2: all choices of one
+//! objection for each statement are tried, and all plays in which a speaker keeps to one. That is
+//! far too slow but for the smallest registers, and there it checks the other solver.
 
 use super::verdict::Verdict;
 use crate::inputs::lists::Lists;
@@ -24,17 +24,29 @@ struct Game {
 pub fn verdicts(lists: &Lists) -> Vec<Verdict> {
     let game = Game::of(lists);
     let choices = game.choices();
-    let verdict = |x| {
-        let first = game.least_turns(&choices, Turn::Mine, x);
-        let second = game.least_turns(&choices, Turn::Theirs, x);
-        match (first, second) {
-            (None, None) => Verdict::Open,
-            (None, Some(turns)) => Verdict::Stands(turns),
-            (Some(turns), None) => Verdict::Falls(turns),
-            (Some(_), Some(_)) => panic!("both speakers force a win: {lists}, statement {x}"),
-        }
-    };
+    let least = |turn, x| game.least_turns(&choices, turn, x);
+    let verdict = |x| verdict(least(Turn::Mine, x), least(Turn::Theirs, x));
     (0..lists.marks.len()).map(verdict).collect()
+}
+
+/// The class exercise for each statement of sound lists: 1 if the second speaker can force a win
+/// within the turns, 2 if the first can, 0 for neither.
+pub fn within(lists: &Lists, turns: u32) -> Vec<u32> {
+    let game = Game::of(lists);
+    let choices = game.choices();
+    let wins = |turn, x| game.wins(&choices, turn, x, turns).then_some(turns);
+    let answer = |x| verdict(wins(Turn::Mine, x), wins(Turn::Theirs, x)).label();
+    (0..lists.marks.len()).map(answer).collect()
+}
+
+/// By the turns within which the first speaker can force a win, and the second.
+fn verdict(first: Option<u32>, second: Option<u32>) -> Verdict {
+    match (first, second) {
+        (None, None) => Verdict::Open,
+        (None, Some(turns)) => Verdict::Stands(turns),
+        (Some(turns), None) => Verdict::Falls(turns),
+        (Some(_), Some(_)) => panic!("both speakers force a win"),
+    }
 }
 
 impl Game {
@@ -67,17 +79,19 @@ impl Game {
     /// The least number of turns within which some choice forces a win. A play that is longer than
     /// twice the statements comes back to the same statement and speaker, and could go on for ever.
     fn least_turns(&self, choices: &[Choice], turn: Turn, statement: usize) -> Option<u32> {
-        let most = 2 * self.objectors.len();
-        let suffices = |turns: &usize| {
-            let wins = |choice: &Choice| self.forces(choice, turn, statement, *turns);
-            choices.iter().any(wins)
-        };
-        (0..=most).find(suffices).map(|turns| turns as u32)
+        let most = 2 * self.objectors.len() as u32;
+        (0..=most).find(|turns| self.wins(choices, turn, statement, *turns))
+    }
+
+    /// Whether some choice forces a win within so many turns.
+    fn wins(&self, choices: &[Choice], turn: Turn, statement: usize, turns: u32) -> bool {
+        let forces = |choice: &Choice| self.forces(choice, turn, statement, turns);
+        choices.iter().any(forces)
     }
 
     /// Whether every play in which I keep to the choice ends, within so many turns, with them
     /// having none to name and no right to ask for time.
-    fn forces(&self, choice: &Choice, turn: Turn, statement: usize, turns: usize) -> bool {
+    fn forces(&self, choice: &Choice, turn: Turn, statement: usize, turns: u32) -> bool {
         let objectors = &self.objectors[statement];
         match turn {
             Turn::Mine => choice[statement].is_some_and(|named| {

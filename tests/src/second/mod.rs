@@ -1,6 +1,8 @@
 //! The second solver: what the library ought to answer, worked out again from document 01 by other
 //! means. It shares no code with the library, and knows nothing of how the library is called.
 
+pub mod argument;
+pub mod exercise;
 pub mod expected;
 pub mod game;
 pub mod kinds;

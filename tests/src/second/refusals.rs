@@ -7,11 +7,15 @@ use std::collections::HashSet;
 pub const MOST_STATEMENTS: usize = 1_024;
 pub const MOST_OBJECTIONS: usize = 4_096;
 
-/// The refusal of a room that is shorter than the answer, the last in 01's order.
-pub const SHORT_ROOM: Refusal = Refusal {
-    number: 10,
-    place: 0,
-};
+/// The refusals of what is asked, in 01's order: a statement that is not on the register, more than
+/// 6 turns, and a room that is shorter than the answer. They have no place.
+pub const UNKNOWN_STATEMENT: Refusal = placeless(14);
+pub const TOO_MANY_TURNS: Refusal = placeless(15);
+pub const SHORT_ROOM: Refusal = placeless(10);
+
+pub const fn placeless(number: u32) -> Refusal {
+    Refusal { number, place: 0 }
+}
 
 #[derive(Clone, Copy, Debug, PartialEq, Eq)]
 pub struct Refusal {

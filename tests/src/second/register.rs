@@ -2,7 +2,7 @@
 //! Each row says by itself whether a line has its fault, by what comes before that line, whatever
 //! else is wrong. The first line that has a fault is refused, for the first fault in 01's order.
 
-use super::refusals::{Refusal, MOST_OBJECTIONS, MOST_STATEMENTS};
+use super::refusals::{placeless, Refusal, MOST_OBJECTIONS, MOST_STATEMENTS};
 use super::text::{self, Line};
 use crate::inputs::lists::Lists;
 use std::collections::HashMap;
@@ -38,12 +38,11 @@ struct Page {
 }
 
 pub fn read(text: &[u8]) -> Result<Register, Refusal> {
-    let whole = |number| Refusal { number, place: 0 };
     if text.len() > MOST_BYTES {
-        return Err(whole(1));
+        return Err(placeless(1));
     }
     if text.last().is_some_and(|byte| *byte != b'\n') {
-        return Err(whole(2));
+        return Err(placeless(2));
     }
     let page = Page::of(text::lines(text));
     let refusal = |at: usize| {

@@ -6,7 +6,9 @@ use crate::inputs::lists::Lists;
 use crate::inputs::small;
 use crate::library::session::Session;
 use crate::random::Random;
-use crate::second::{game, rounds};
+use crate::second::exercise::MOST_TURNS;
+use crate::second::verdict::Verdict;
+use crate::second::{exercise, game, rounds};
 
 /// How many registers of four statements are tried, of the million that there are.
 const SAMPLED: usize = 20_000;
@@ -45,10 +47,19 @@ fn four(session: &mut Session) -> Result<(), String> {
 fn agree(session: &mut Session, lists: &Lists) -> Result<(), String> {
     session.count();
     let (by_rounds, by_game) = (rounds::verdicts(lists), game::verdicts(lists));
-    if by_rounds == by_game {
-        return Ok(());
+    if by_rounds != by_game {
+        return Err(format!(
+            "{lists}: {by_rounds:?} by rounds, {by_game:?} by the game"
+        ));
     }
-    Err(format!(
-        "{lists}: {by_rounds:?} by rounds, {by_game:?} by the game"
-    ))
+    // two turns more than may be asked: what is said of them must agree too
+    for turns in 0..=MOST_TURNS + 2 {
+        session.count();
+        let within = |verdict: &Verdict| exercise::within(*verdict, turns);
+        let by_length: Vec<u32> = by_rounds.iter().map(within).collect();
+        if by_length != game::within(lists, turns) {
+            return Err(format!("{lists}: {by_length:?} by length, {turns} turns"));
+        }
+    }
+    Ok(())
 }

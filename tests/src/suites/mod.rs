@@ -1,6 +1,7 @@
 //! The tests by name. A suite is a file that makes some of them; each test stops at the first
 //! difference and shows the input.
 
+mod asked;
 mod examples;
 mod limits;
 mod meaning;
@@ -14,7 +15,7 @@ mod texts;
 use crate::library::session::Session;
 
 /// What a test does. It fails with the input and what was wrong with the answer.
-type Run = Box<dyn Fn(&mut Session) -> Result<(), String>>;
+type Run = Box<dyn Fn(&mut Session) -> Result<(), String> + Sync>;
 
 pub struct Test {
     pub name: String,
@@ -24,7 +25,7 @@ pub struct Test {
 impl Test {
     fn new(
         name: impl Into<String>,
-        run: impl Fn(&mut Session) -> Result<(), String> + 'static,
+        run: impl Fn(&mut Session) -> Result<(), String> + Sync + 'static,
     ) -> Self {
         Test {
             name: name.into(),
@@ -44,6 +45,7 @@ pub fn all() -> Vec<Test> {
         refusals::tests(),
         order::tests(),
         texts::tests(),
+        asked::tests(),
     ];
     suites.into_iter().flatten().collect()
 }

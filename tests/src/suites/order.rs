@@ -3,13 +3,14 @@
 
 use super::Test;
 use crate::inputs::lists::Lists;
+use crate::inputs::rooms;
 use crate::library::array::Room;
 use crate::library::call::{ListCall, LIST_CALLS};
 use crate::library::session::Session;
 use crate::second::expected::Expected;
 
 /// The refusals of lists in 01's order. A set of faults has bit i for the one that ORDER[i] is.
-const ORDER: [u32; 7] = [11, 6, 9, 12, 13, 8, 10];
+pub const ORDER: [u32; 7] = [11, 6, 9, 12, 13, 8, 10];
 const SETS: usize = 1 << ORDER.len();
 
 /// The statements and pairs where their number is no fault, and where it is.
@@ -19,10 +20,10 @@ const PAIRS: [usize; 2] = [40, 4_097];
 /// Which of the faults that have a place come late in the lists, and which list or room is the
 /// shorter one: a bit for each.
 #[derive(Clone, Copy)]
-struct Arrangement(usize);
+pub struct Arrangement(pub usize);
 
 impl Arrangement {
-    const COUNT: usize = 32;
+    pub const COUNT: usize = 32;
 
     fn says(self, bit: usize) -> bool {
         self.0 >> bit & 1 == 1
@@ -50,8 +51,9 @@ fn hold_sets(session: &mut Session, call: &ListCall) -> Result<(), String> {
     for set in 0..SETS {
         for arrangement in (0..Arrangement::COUNT).map(Arrangement) {
             let lists = faulty(set, arrangement);
-            let rooms = rooms_for(set, arrangement, call, &lists);
             let expected = Expected::of_lists(&lists);
+            let length = call.answer_length(&lists, &expected);
+            let rooms = rooms_for(set, arrangement, call.rooms(), length);
             let lengths: Vec<usize> = rooms.iter().map(|room| room.length()).collect();
             let answered = expected.answer(call.question, &lengths).refusal;
             if answered != first_in_order(set) {
@@ -70,13 +72,13 @@ fn has(set: usize, number: u32) -> bool {
 }
 
 /// The refusal that wins, or 0 where the set is empty.
-fn first_in_order(set: usize) -> u32 {
+pub fn first_in_order(set: usize) -> u32 {
     let mut order = ORDER.into_iter();
     order.find(|number| has(set, *number)).unwrap_or(0)
 }
 
 /// Lists with just these faults.
-fn faulty(set: usize, arrangement: Arrangement) -> Lists {
+pub fn faulty(set: usize, arrangement: Arrangement) -> Lists {
     let statements = STATEMENTS[usize::from(has(set, 6))];
     let length = PAIRS[usize::from(has(set, 9))];
     let pair = |entry: usize| ((entry % 70) as u32, (entry / 70) as u32);
@@ -104,11 +106,10 @@ fn faulty(set: usize, arrangement: Arrangement) -> Lists {
 }
 
 /// Rooms that fit, or of which one is too short.
-fn rooms_for(set: usize, arrangement: Arrangement, call: &ListCall, lists: &Lists) -> Vec<Room> {
-    let length = call.answer_length(lists);
-    let mut rooms = vec![Room::Of(length); call.rooms()];
+fn rooms_for(set: usize, arrangement: Arrangement, count: usize, length: usize) -> Vec<Room> {
+    let mut rooms = rooms::fitting(count, length);
     if has(set, 10) {
-        let at = usize::from(arrangement.says(4)) % rooms.len();
+        let at = usize::from(arrangement.says(4)) % count;
         rooms[at] = Room::Of(length - 1);
     }
     rooms

@@ -107,7 +107,7 @@ fn two_unknown_marks(session: &mut Session) -> Result<(), String> {
 
 /// Places that are outside a register of so many statements: the nearest, and some that a cut to
 /// fewer bits would bring back inside.
-fn outside(statements: usize) -> [u32; 10] {
+pub fn outside(statements: usize) -> [u32; 10] {
     let next = statements as u32;
     [
         next,

@@ -27,7 +27,8 @@ fn small(session: &mut Session, call: &ListCall) -> Result<(), String> {
     for statements in 1..=8 {
         for pairs in [0, 1, statements / 2 + 1, statements + 1] {
             let lists = register(&mut random, statements, pairs);
-            let most = call.answer_length(&lists) + 3;
+            let expected = Expected::of_lists(&lists);
+            let most = call.answer_length(&lists, &expected) + 3;
             let mut lengths: Vec<Room> = (0..=most).map(Room::Of).collect();
             lengths.push(Room::Null);
             hold_each(session, call, &lists, &lengths)?;
@@ -45,7 +46,8 @@ fn at_limits(session: &mut Session, call: &ListCall) -> Result<(), String> {
     ];
     for (statements, pairs) in sizes {
         let lists = register(&mut random, statements, pairs);
-        let right = call.answer_length(&lists);
+        let expected = Expected::of_lists(&lists);
+        let right = call.answer_length(&lists, &expected);
         // 65,536 would be an empty room if it were cut down to 16 bits
         let lengths = [0, 1, right - 1, right, right + 1, 65_535, 65_536];
         let few = [right - 1, right, 65_536];

@@ -2,7 +2,6 @@
 //! once more with the pairs in another order.
 
 use super::Test;
-use crate::inputs::lists::Lists;
 use crate::inputs::{rooms, small};
 use crate::library::call::{ListCall, LIST_CALLS};
 use crate::library::session::Session;
@@ -23,19 +22,15 @@ fn hold_all(session: &mut Session, call: &ListCall) -> Result<(), String> {
         for number in 0..small::count(statements) {
             let lists = small::register(statements, number);
             let expected = Expected::of_lists(&lists);
-            for rooms in rooms::around(call.rooms(), call.answer_length(&lists)) {
+            let length = call.answer_length(&lists, &expected);
+            for rooms in rooms::around(call.rooms(), length) {
                 session.hold_list_call(call, &lists, &expected, &rooms)?;
             }
-            let lists = reordered(&lists, &mut random);
+            let lists = lists.reordered(&mut random);
             let expected = Expected::of_lists(&lists);
-            session.hold_list_call(call, &lists, &expected, &call.fitting(&lists))?;
+            let rooms = call.fitting(&lists, &expected);
+            session.hold_list_call(call, &lists, &expected, &rooms)?;
         }
     }
     Ok(())
-}
-
-fn reordered(lists: &Lists, random: &mut Random) -> Lists {
-    let mut pairs: Vec<(u32, u32)> = lists.pairs().collect();
-    random.shuffle(&mut pairs);
-    Lists::new(lists.marks.clone(), &pairs)
 }

@@ -2,8 +2,8 @@
 use borrow.Author.Needs.{needs}
 use native.Mathlib.Omega.{arith}
 use mathlib.Core.Path.{_∙_}
-use borrow.Author.Needs.{needs}
 use lib.ListN.{getD-replicate}
+use Rattle.chain.proofs.Links.{all-zero}
 use Rattle.label.proofs.settle.Statement.{statement}
 use Rattle.label.proofs.settle.Tie as tie
 
@@ -14,8 +14,7 @@ slice-aggregate-chain-2 : tie.Need-slice-aggregate-chain-2
 slice-aggregate-chain-2 c = search needs
 
 chain-requires : tie.Need-chain-requires
-chain-requires c κs =
-    (c .before .before .before .before .before .before .before .pre .0, ((omega (arith, c .before .before .before .before .before .before .before .pre .0 .few-marks), omega (arith, c .before .before .before .before .before .before .before .pre .0 .few-pairs)), λ y h. getD-replicate 1024 y 0 0 (omega (arith, c .before .before .before .before .before .before .before .pre .0 .few-marks))))
+chain-requires c κs = ((c .before .before .before .before .before .before .before .pre .0 .few-pairs, omega (arith, c .before .before .before .before .before .before .before .pre .0 .few-pairs), search needs), (λ e h. omega (arith, c .before .before .before .before .before .before .before .pre .0 .order .objector e h, c .before .before .before .before .before .before .before .pre .0 .few-marks), λ x. all-zero 1024 x))
 
 slice-aggregate-count : tie.Need-slice-aggregate-count
 slice-aggregate-count c = search needs
@@ -60,7 +59,7 @@ run-requires c κs = (
   (
     record { labels-room = c .before .before .before .before .before .before .before .before .before .before .before .start .kept .1 .1 .1 .1 .0 ∙ c .before .before .before .before .before .before .before .before .before .before .before .before .before .before .before .before .before .before .before .before .blank .kept .1 .0 ∙ c .before .before .before .before .before .before .before .before .before .before .before .before .before .before .before .before .before .before .before .before .before .before .before .before .before .before .before .before .before .before .before .before .before .before .before .before .pre .1 .labels-room; lengths-room = c .before .before .before .before .before .before .before .before .before .before .before .start .kept .1 .1 .1 .1 .1 .0 ∙ c .before .before .before .before .before .before .before .before .before .before .before .before .before .before .before .before .before .before .before .before .blank .kept .1 .1 .0 ∙ c .before .before .before .before .before .before .before .before .before .before .before .before .before .before .before .before .before .before .before .before .before .before .before .before .before .before .before .before .before .before .before .before .before .before .before .before .pre .1 .lengths-room },
     (
-      record { head-room = omega (arith, c .before .before .before .before .before .before .before .before .before .before .before .before .before .before .before .before .before .before .before .before .before .before .before .before .before .before .before .before .chain .kept .1 .1 .1 .0, c .before .before .before .before .before .before .before .before .before .before .before .before .before .before .before .before .before .before .before .before .before .before .before .before .before .before .before .before .before .before .before .before .before .before .before .before .pre .0 .few-marks); next-room = omega (arith, c .before .before .before .before .before .before .before .before .before .before .before .before .before .before .before .before .before .before .before .before .before .before .before .before .before .before .before .before .chain .kept .1 .1 .1 .1 .0, c .before .before .before .before .before .before .before .before .before .before .before .before .before .before .before .before .before .before .before .before .before .before .before .before .before .before .before .before .before .before .before .before .before .before .before .before .pre .0 .few-pairs); left-room = omega (arith, c .before .before .before .before .before .before .before .before .before .before .before .before .before .before .before .before .before .before .before .before .before .before .before .before .count .kept .1 .1 .1 .0, c .before .before .before .before .before .before .before .before .before .before .before .before .before .before .before .before .before .before .before .before .before .before .before .before .before .before .before .before .before .before .before .before .before .before .before .before .pre .0 .few-marks); queue-room = omega (arith, c .before .before .before .before .before .before .before .before .before .before .before .start .kept .1 .1 .1 .1 .1 .1 .0, c .before .before .before .before .before .before .before .before .before .before .before .before .before .before .before .before .before .before .before .before .before .before .before .before .before .before .before .before .before .before .before .before .before .before .before .before .pre .0 .few-marks) },
+      record { head-room = omega (arith, c .before .before .before .before .before .before .before .before .before .before .before .before .before .before .before .before .before .before .before .before .before .before .before .before .before .before .before .before .chain .kept .1 .0, c .before .before .before .before .before .before .before .before .before .before .before .before .before .before .before .before .before .before .before .before .before .before .before .before .before .before .before .before .before .before .before .before .before .before .before .before .pre .0 .few-marks); next-room = omega (arith, c .before .before .before .before .before .before .before .before .before .before .before .before .before .before .before .before .before .before .before .before .before .before .before .before .before .before .before .before .chain .kept .1 .1 .0, c .before .before .before .before .before .before .before .before .before .before .before .before .before .before .before .before .before .before .before .before .before .before .before .before .before .before .before .before .before .before .before .before .before .before .before .before .pre .0 .few-pairs); left-room = omega (arith, c .before .before .before .before .before .before .before .before .before .before .before .before .before .before .before .before .before .before .before .before .before .before .before .before .count .kept .1 .1 .1 .0, c .before .before .before .before .before .before .before .before .before .before .before .before .before .before .before .before .before .before .before .before .before .before .before .before .before .before .before .before .before .before .before .before .before .before .before .before .pre .0 .few-marks); queue-room = omega (arith, c .before .before .before .before .before .before .before .before .before .before .before .start .kept .1 .1 .1 .1 .1 .1 .0, c .before .before .before .before .before .before .before .before .before .before .before .before .before .before .before .before .before .before .before .before .before .before .before .before .before .before .before .before .before .before .before .before .before .before .before .before .pre .0 .few-marks) },
       (c .before .before .before .before .before .before .before .before .before .before .before .before .before .before .before .before .before .before .before .before .before .before .before .before .before .before .before .before .chain .ensures, c .before .before .before .before .before .before .before .before .before .before .before .start .ensures),
     ),
   ),

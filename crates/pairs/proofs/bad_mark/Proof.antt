@@ -7,8 +7,6 @@ use Rattle.game.proofs.Find.{further, found-none, found-here}
 use borrow.Author.Needs.{needs}
 use Rattle.pairs.proofs.bad_mark.Statement.{statement}
 use Rattle.pairs.proofs.bad_mark.Tie as tie
-use Rattle.pairs.proofs.bad_mark.Reads as reads
-use Rattle.pairs.proofs.bad_mark.Lts as lts
 
 abbrev Inv-loop : tie.InvT-loop
 Inv-loop marks k₀ k = (k ≤ length marks) × ((j : ℕ) → j < k → ¬ BadMark marks j)

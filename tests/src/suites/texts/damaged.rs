@@ -6,11 +6,13 @@ use crate::inputs::damage::damaged;
 use crate::inputs::page::Page;
 use crate::inputs::shapes::SHAPES;
 use crate::inputs::text::Text;
-use crate::library::array::Room;
-use crate::library::call::TEXT_CALLS;
+use crate::library::call::{of_longest, TextCall, TEXT_CALLS};
 use crate::library::session::Session;
 use crate::random::Random;
 use crate::second::expected::Expected;
+
+/// How many of the calls are made on each text.
+const HELD: usize = 2;
 
 /// How many texts there are: damaged ones for each sound one, sound ones, and the most statements
 /// and objections of those.
@@ -23,8 +25,8 @@ struct Size {
 }
 
 const SIZES: [Size; 4] = [
-    size("tens of bytes", 12, 8_000, 3, 4),
-    size("a hundred bytes", 12, 8_000, 8, 10),
+    size("tens of bytes", 12, 6_000, 3, 4),
+    size("a hundred bytes", 12, 6_000, 8, 10),
     size("some hundred bytes", 12, 1_000, 25, 40),
     size("thousands of bytes", 10, 30, 300, 900),
 ];
@@ -75,18 +77,21 @@ fn hold(session: &mut Session, size: &Size) -> Result<(), String> {
     }
 }
 
-/// Holds every call, now and then with a room that is a little longer or shorter than the answer.
-/// Answers the refusal of the text, or 0.
+/// Holds some of the calls, now and then with a room that is a little longer or shorter than the
+/// answer. Answers the refusal of the text, or 0.
 fn hold_text(session: &mut Session, random: &mut Random, text: &Text) -> Result<u32, String> {
     let expected = Expected::of_text(text);
-    for call in &TEXT_CALLS {
+    let asking = of_longest(&expected).map(TextCall::asking);
+    let mut calls: Vec<&TextCall> = TEXT_CALLS.iter().chain(&asking).collect();
+    random.shuffle(&mut calls);
+    for call in calls.into_iter().take(HELD) {
         let fitting = call.answer_length(text, &expected);
         let length = match random.below(8) {
             0 => fitting + random.below(4),
             1 => fitting.saturating_sub(1),
             _ => fitting,
         };
-        session.hold_text_call(call, text, &expected, &[Room::Of(length)])?;
+        session.hold_text_call(call, text, &expected, &call.lent(length))?;
     }
     Ok(expected.refused_as().0)
 }

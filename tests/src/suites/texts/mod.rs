@@ -5,7 +5,7 @@ mod damaged;
 mod limits;
 mod lines;
 mod numbers;
-mod order;
+pub mod order;
 mod refusals;
 mod registers;
 mod rooms;

@@ -30,7 +30,7 @@ pub fn tests() -> Vec<Test> {
 }
 
 /// A line, and the fault that it was made for.
-struct Line {
+pub struct Line {
     words: String,
     fault: Option<u32>,
 }
@@ -77,7 +77,7 @@ fn hold_set(
 
 /// The lines of a text with these faults. All that have a choice are at random lines, and before
 /// the line that is one too many: on that line or after it they would not be seen.
-fn faulty(random: &mut Random, set: usize) -> Vec<Line> {
+pub fn faulty(random: &mut Random, set: usize) -> Vec<Line> {
     let statements = STATEMENTS[usize::from(has(set, 6))];
     let objections = OBJECTIONS[usize::from(has(set, 9))];
     let page = Page::random(random, statements, objections);
@@ -123,7 +123,7 @@ fn put_in(lines: &mut Vec<Line>, set: usize, fault: u32, at: usize, words: Strin
 }
 
 /// The text of the lines, made too long or left without an end if the set says so.
-fn whole(set: usize, lines: &[Line]) -> Text {
+pub fn whole(set: usize, lines: &[Line]) -> Text {
     let words: Vec<&String> = lines.iter().map(|line| &line.words).collect();
     let mut text = Text::of_lines(&words);
     while has(set, 1) && text.0.len() <= MOST_BYTES {

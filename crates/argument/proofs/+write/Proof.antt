@@ -1,0 +1,205 @@
+-- `write` puts x first, and the line of the next objector into the rest of the room.
+use Rattle.argument.proofs.Room.{room-first, rest-length, room-rest, rest-kept}
+use lib.ListN.{length-set}
+use mathlib.Core.List.{[], _∷_}
+use Rattle.argument.proofs.Room.{room-first, rest-length, room-rest}
+use native.Mathlib.Omega.{arith}
+use Prim.Native.Nat.{_-_}
+use Rattle.argument.proofs.Lines.{line-ends, onward-there, onward-listed, onward-turns, line-goes-on}
+use borrow.Author.Needs.{needs}
+use Prim.Native.Nat.{ℕ, _<_}
+use borrow.Fn.Kinds.{In}
+use borrow.Fn.PlainCycle.{Measures, is, falls, and}
+use Rattle.argument.proofs.write.Reads as write
+use Rattle.argument.proofs.write.Kinds as write-kinds
+use Rattle.argument.proofs.+write.Lts-write as write-lts
+use Rattle.argument.proofs.onward.Reads as onward-reads
+use Rattle.argument.proofs.other.Reads as other-reads
+use Rattle.argument.proofs.+write.{statement}
+use Rattle.argument.proofs.+write.Tie.{close}
+
+abbrev μ-write : Measures 8 write-kinds.ps ℕ
+μ-write κs a = a .1 .1 .1 .1 .1 .1 .1 .1 .0
+
+abbrev write-at : ℕ → In 8 write-kinds.ps
+write-at t = and 8 write-kinds.ps (is 8 write-kinds.ps μ-write t) write.Pre
+
+abbrev write-below : ℕ → In 8 write-kinds.ps
+write-below t = and 8 write-kinds.ps (falls 8 write-kinds.ps _<_ μ-write t) write.Pre
+
+write-cast-line : (t : ℕ) → write-lts.Need-cast-line (
+  other-reads.Asked,
+  other-reads.Learnt,
+  onward-reads.Asked,
+  onward-reads.Learnt,
+  write-below t,
+  write.Post,
+) (write-at t) write.Post
+write-cast-line t c = search needs
+
+write-slice-write-line : (t : ℕ) → write-lts.Need-slice-write-line (
+  other-reads.Asked,
+  other-reads.Learnt,
+  onward-reads.Asked,
+  onward-reads.Learnt,
+  write-below t,
+  write.Post,
+) (write-at t) write.Post
+write-slice-write-line t c = search needs
+
+write-same-length : (t : ℕ) → write-lts.Need-same-length (
+  other-reads.Asked,
+  other-reads.Learnt,
+  onward-reads.Asked,
+  onward-reads.Learnt,
+  write-below t,
+  write.Post,
+) (write-at t) write.Post
+write-same-length t c = search needs
+
+write-returns : (t : ℕ) → write-lts.Need-returns (
+  other-reads.Asked,
+  other-reads.Learnt,
+  onward-reads.Asked,
+  onward-reads.Learnt,
+  write-below t,
+  write.Post,
+) (write-at t) write.Post
+write-returns t c = (c .before .before .before .before .before .before .before .before .before .args .x ∷ [], line-ends _ _ _ _ _ (c .before .before .before .before .before .before .before .before .before .pre .1 .0 .0) _ _ (c .before .before .before .before .before .before .before .before .before .pre .1 .1 .0) (c .before .before .before .before .before .before .before .before .before .pre .1 .1 .1) (c .if1 .taken), room-first (c .before .before .before .before .before .before .before .before .before .args .line .now) (c .before .before .before .before .before .before .before .before .before .args .x) (omega (arith, c .before .before .before .before .before .before .before .before .before .pre .1 .1 .2)))
+
+write-shared-slice-read-other : (t : ℕ) → write-lts.Need-shared-slice-read-other (
+  other-reads.Asked,
+  other-reads.Learnt,
+  onward-reads.Asked,
+  onward-reads.Learnt,
+  write-below t,
+  write.Post,
+) (write-at t) write.Post
+write-shared-slice-read-other t c = search needs
+
+write-other-requires : (t : ℕ) → write-lts.Need-other-requires (
+  other-reads.Asked,
+  other-reads.Learnt,
+  onward-reads.Asked,
+  onward-reads.Learnt,
+  write-below t,
+  write.Post,
+) (write-at t) write.Post
+write-other-requires t c κs = search needs
+
+write-sub-onward : (t : ℕ) → write-lts.Need-sub-onward (
+  other-reads.Asked,
+  other-reads.Learnt,
+  onward-reads.Asked,
+  onward-reads.Learnt,
+  write-below t,
+  write.Post,
+) (write-at t) write.Post
+write-sub-onward t c = search needs
+
+write-onward-requires : (t : ℕ) → write-lts.Need-onward-requires (
+  other-reads.Asked,
+  other-reads.Learnt,
+  onward-reads.Asked,
+  onward-reads.Learnt,
+  write-below t,
+  write.Post,
+) (write-at t) write.Post
+write-onward-requires t c κs = (((c .before .before .before .before .before .before .before .before .before .before .before .pre .1 .0 .0), (c .before .before .before .before .before .before .before .before .before .before .before .pre .1 .0 .1), (c .before .before .before .before .before .before .before .before .before .before .before .pre .1 .1 .0)), onward-there _ _ _ _ _ (c .before .before .before .before .before .before .before .before .before .before .before .pre .1 .0 .0) _ _ (c .before .before .before .before .before .before .before .before .before .before .before .pre .1 .1 .0) (c .before .before .before .before .before .before .before .before .before .before .before .pre .1 .1 .1) _ (c .other .ensures) (c .before .before .if1 .left))
+
+write-sub-write : (t : ℕ) → write-lts.Need-sub-write (
+  other-reads.Asked,
+  other-reads.Learnt,
+  onward-reads.Asked,
+  onward-reads.Learnt,
+  write-below t,
+  write.Post,
+) (write-at t) write.Post
+write-sub-write t c = search needs
+
+write-sub-write-2 : (t : ℕ) → write-lts.Need-sub-write-2 (
+  other-reads.Asked,
+  other-reads.Learnt,
+  onward-reads.Asked,
+  onward-reads.Learnt,
+  write-below t,
+  write.Post,
+) (write-at t) write.Post
+write-sub-write-2 t c = simp length-set (omega (arith, c .before .before .before .before .before .before .before .before .before .before .before .before .pre .1 .1 .2))
+
+write-part-write-start : (t : ℕ) → write-lts.Need-part-write-start (
+  other-reads.Asked,
+  other-reads.Learnt,
+  onward-reads.Asked,
+  onward-reads.Learnt,
+  write-below t,
+  write.Post,
+) (write-at t) write.Post
+write-part-write-start t c = simp length-set (omega (arith, c .before .before .before .before .before .before .before .before .before .before .before .before .pre .1 .1 .2))
+
+write-part-write-end : (t : ℕ) → write-lts.Need-part-write-end (
+  other-reads.Asked,
+  other-reads.Learnt,
+  onward-reads.Asked,
+  onward-reads.Learnt,
+  write-below t,
+  write.Post,
+) (write-at t) write.Post
+write-part-write-end t c = search needs
+
+write-write-requires : (t : ℕ) → write-lts.Need-write-requires (
+  other-reads.Asked,
+  other-reads.Learnt,
+  onward-reads.Asked,
+  onward-reads.Learnt,
+  write-below t,
+  write.Post,
+) (write-at t) write.Post
+write-write-requires t c κs = (omega (arith, c .before .before .before .before .if1 .left, c .before .before .before .before .before .before .before .before .before .before .before .before .before .pre .0), (c .before .before .before .before .before .before .before .before .before .before .before .before .before .pre .1 .0, (onward-listed _ _ _ _ _ (c .before .before .before .before .before .before .before .before .before .before .before .before .before .pre .1 .0 .0) _ _ (c .before .before .before .before .before .before .before .before .before .before .before .before .before .pre .1 .1 .0) (c .before .before .before .before .before .before .before .before .before .before .before .before .before .pre .1 .1 .1) _ (c .before .before .other .ensures) (c .before .before .before .before .if1 .left) _ (c .before .onward .ensures), onward-turns _ _ _ _ _ (c .before .before .before .before .before .before .before .before .before .before .before .before .before .pre .1 .0 .0) _ _ (c .before .before .before .before .before .before .before .before .before .before .before .before .before .pre .1 .1 .0) (c .before .before .before .before .before .before .before .before .before .before .before .before .before .pre .1 .1 .1) _ (c .before .before .other .ensures) (c .before .before .before .before .if1 .left) _ (c .before .onward .ensures), omega (arith, rest-length (c .before .before .before .before .before .before .before .before .before .before .before .before .before .args .line .now) (c .before .before .before .before .before .before .before .before .before .before .before .before .before .args .x), c .before .before .before .before .before .before .before .before .before .before .before .before .before .pre .1 .1 .2, c .before .before .before .before .if1 .left))))
+
+write-same-length-2 : (t : ℕ) → write-lts.Need-same-length-2 (
+  other-reads.Asked,
+  other-reads.Learnt,
+  onward-reads.Asked,
+  onward-reads.Learnt,
+  write-below t,
+  write.Post,
+) (write-at t) write.Post
+write-same-length-2 t c = rest-kept (c .before .before .before .before .before .before .before .before .before .before .before .before .before .before .before .before .args .line .now) (c .before .before .before .before .before .before .before .before .before .before .before .before .before .before .before .before .args .x) (c .before .before .write .last .1 .1 .1 .1 .1 .1 .1 .1 .1 .0) (c .before .before .write .kept .1 .1 .1 .1 .1 .1 .1 .1 .1 .0)
+
+write-returns-2 : (t : ℕ) → write-lts.Need-returns-2 (
+  other-reads.Asked,
+  other-reads.Learnt,
+  onward-reads.Asked,
+  onward-reads.Learnt,
+  write-below t,
+  write.Post,
+) (write-at t) write.Post
+write-returns-2 t c = let (l, r, e) = c .before .before .write .ensures in (c .before .before .before .before .before .before .before .before .before .before .before .before .before .before .before .before .args .x ∷ l, line-goes-on _ _ _ _ _ (c .before .before .before .before .before .before .before .before .before .before .before .before .before .before .before .before .pre .1 .0 .0) _ _ (c .before .before .before .before .before .before .before .before .before .before .before .before .before .before .before .before .pre .1 .1 .0) (c .before .before .before .before .before .before .before .before .before .before .before .before .before .before .before .before .pre .1 .1 .1) _ (c .before .before .before .before .before .other .ensures) (c .before .before .before .before .before .before .before .if1 .left) _ (c .before .before .before .before .onward .ensures) l r, room-rest (c .before .before .before .before .before .before .before .before .before .before .before .before .before .before .before .before .args .line .now) (c .before .before .before .before .before .before .before .before .before .before .before .before .before .before .before .before .args .x) l _ (omega (arith, c .before .before .before .before .before .before .before .before .before .before .before .before .before .before .before .before .pre .1 .1 .2)) e)
+
+pub +write-spec : {M : Type 1} → statement M
++write-spec = close μ-write λ t. write-lts.spec (
+  other-reads.Asked,
+  other-reads.Learnt,
+  onward-reads.Asked,
+  onward-reads.Learnt,
+  write-below t,
+  write.Post,
+)
+    (write-at t)
+    write.Post
+    (write-cast-line t)
+    (write-slice-write-line t)
+    (write-same-length t)
+    (write-returns t)
+    (write-shared-slice-read-other t)
+    (write-other-requires t)
+    (write-sub-onward t)
+    (write-onward-requires t)
+    (write-sub-write t)
+    (write-sub-write-2 t)
+    (write-part-write-start t)
+    (write-part-write-end t)
+    (write-write-requires t)
+    (write-same-length-2 t)
+    (write-returns-2 t)

@@ -1,0 +1,798 @@
+-- `falls_within` and `stands_within` ask each other with one turn less. Each walks the chain of its statement; the
+-- invariant of the walk is what every objector passed was found to be, beside tables that are right.
+use mathlib.Core.Bool.{true, false}
+use native.Mathlib.Omega.{arith}
+use borrow.Author.Tests.{not-true, not-false}
+use Rattle.game.specs.Book.{bookOf}
+use Rattle.chain.specs.Chained.{Walk}
+use Rattle.exercise.specs.Known.{Known}
+use Rattle.exercise.proofs.Entries.{Weak, Beaten}
+use Rattle.exercise.proofs.Steps.{begins, listed, lower, falls-slot, falls-believed, falls-at-once, falls-goes-on, falls-found, falls-ends, stands-slot, stands-believed, stands-never, stands-too-late, stands-goes-on, stands-lost, stands-ends}
+use Rattle.exercise.proofs.Table.{same-room, set-room}
+use borrow.Author.Needs.{needs}
+use Prim.Native.Nat.{ℕ, _<_}
+use borrow.Fn.Kinds.{In}
+use borrow.Fn.PlainCycle.{Measures, is, falls, and}
+use Rattle.exercise.proofs.falls_within.Reads as falls-within
+use Rattle.exercise.proofs.falls_within.Kinds as falls-within-kinds
+use Rattle.exercise.proofs.+falls_within+stands_within.Lts-falls_within as falls-within-lts
+use Rattle.exercise.proofs.stands_within.Reads as stands-within
+use Rattle.exercise.proofs.stands_within.Kinds as stands-within-kinds
+use Rattle.exercise.proofs.+falls_within+stands_within.Lts-stands_within as stands-within-lts
+use Rattle.chain.proofs.place.Reads as place-reads
+use Rattle.chain.proofs.wide.Reads as wide-reads
+use Rattle.exercise.proofs.+falls_within+stands_within.{statement}
+use Rattle.exercise.proofs.+falls_within+stands_within.Tie.{close}
+
+abbrev μ-falls-within : Measures 7 falls-within-kinds.ps ℕ
+μ-falls-within κs a = a .1 .1 .1 .1 .1 .1 .0
+
+abbrev μ-stands-within : Measures 7 stands-within-kinds.ps ℕ
+μ-stands-within κs a = a .1 .1 .1 .1 .1 .1 .0
+
+abbrev falls-within-at : ℕ → In 7 falls-within-kinds.ps
+falls-within-at t =
+    and 7 falls-within-kinds.ps (is 7 falls-within-kinds.ps μ-falls-within t) falls-within.Pre
+
+abbrev falls-within-below : ℕ → In 7 falls-within-kinds.ps
+falls-within-below t =
+    and
+    7
+    falls-within-kinds.ps
+    (falls 7 falls-within-kinds.ps _<_ μ-falls-within t)
+    falls-within.Pre
+
+abbrev stands-within-at : ℕ → In 7 stands-within-kinds.ps
+stands-within-at t =
+    and 7 stands-within-kinds.ps (is 7 stands-within-kinds.ps μ-stands-within t) stands-within.Pre
+
+abbrev stands-within-below : ℕ → In 7 stands-within-kinds.ps
+stands-within-below t =
+    and
+    7
+    stands-within-kinds.ps
+    (falls 7 stands-within-kinds.ps _<_ μ-stands-within t)
+    stands-within.Pre
+
+abbrev falls-within-Inv-loop : falls-within-lts.InvT-loop
+falls-within-Inv-loop marks objectors targets head next x turns falls₀ stands₀ slot known c₀ falls stands c = Walk targets x (Weak marks objectors targets turns) c × Known (bookOf marks objectors targets) falls stands
+
+abbrev falls-within-μ-loop : falls-within-lts.MeasureT-loop
+falls-within-μ-loop marks objectors targets head next x turns falls₀ stands₀ slot known c₀ falls stands c = c
+
+falls-within-returns : (t : ℕ) → falls-within-lts.Need-returns (
+  wide-reads.Asked,
+  wide-reads.Learnt,
+  place-reads.Asked,
+  place-reads.Learnt,
+  stands-within-below t,
+  stands-within.Post,
+) (falls-within-at t) falls-within.Post falls-within-Inv-loop falls-within-μ-loop
+falls-within-returns t c = falls-at-once (c .before .before .before .before .before .before .before .before .args .x) (c .before .before .before .before .before .before .before .before .args .turns) (c .before .before .before .before .before .before .before .before .pre .1 .0) (c .before .before .before .before .before .before .before .before .pre .1 .1) (c .if1 .taken)
+
+falls-within-mul-slot : (t : ℕ) → falls-within-lts.Need-mul-slot (
+  wide-reads.Asked,
+  wide-reads.Learnt,
+  place-reads.Asked,
+  place-reads.Learnt,
+  stands-within-below t,
+  stands-within.Post,
+) (falls-within-at t) falls-within.Post falls-within-Inv-loop falls-within-μ-loop
+falls-within-mul-slot t c = search needs
+
+falls-within-add-slot : (t : ℕ) → falls-within-lts.Need-add-slot (
+  wide-reads.Asked,
+  wide-reads.Learnt,
+  place-reads.Asked,
+  place-reads.Learnt,
+  stands-within-below t,
+  stands-within.Post,
+) (falls-within-at t) falls-within.Post falls-within-Inv-loop falls-within-μ-loop
+falls-within-add-slot t c = search needs
+
+falls-within-slice-read-known : (t : ℕ) → falls-within-lts.Need-slice-read-known (
+  wide-reads.Asked,
+  wide-reads.Learnt,
+  place-reads.Asked,
+  place-reads.Learnt,
+  stands-within-below t,
+  stands-within.Post,
+) (falls-within-at t) falls-within.Post falls-within-Inv-loop falls-within-μ-loop
+falls-within-slice-read-known t c = search needs
+
+falls-within-returns-2 : (t : ℕ) → falls-within-lts.Need-returns-2 (
+  wide-reads.Asked,
+  wide-reads.Learnt,
+  place-reads.Asked,
+  place-reads.Learnt,
+  stands-within-below t,
+  stands-within.Post,
+) (falls-within-at t) falls-within.Post falls-within-Inv-loop falls-within-μ-loop
+falls-within-returns-2 t c = falls-believed (c .before .before .before .before .before .before .before .before .before .before .args .x) (c .before .before .before .before .before .before .before .before .before .before .args .turns) (c .before .before .before .before .before .before .before .before .before .before .pre .1 .0) (c .before .before .before .before .before .before .before .before .before .before .pre .1 .1) false (c .if2 .taken)
+
+falls-within-returns-3 : (t : ℕ) → falls-within-lts.Need-returns-3 (
+  wide-reads.Asked,
+  wide-reads.Learnt,
+  place-reads.Asked,
+  place-reads.Learnt,
+  stands-within-below t,
+  stands-within.Post,
+) (falls-within-at t) falls-within.Post falls-within-Inv-loop falls-within-μ-loop
+falls-within-returns-3 t c = falls-believed (c .before .before .before .before .before .before .before .before .before .before .before .args .x) (c .before .before .before .before .before .before .before .before .before .before .before .args .turns) (c .before .before .before .before .before .before .before .before .before .before .before .pre .1 .0) (c .before .before .before .before .before .before .before .before .before .before .before .pre .1 .1) true (c .if3 .taken)
+
+falls-within-mul-wide : (t : ℕ) → falls-within-lts.Need-mul-wide (
+  wide-reads.Asked,
+  wide-reads.Learnt,
+  place-reads.Asked,
+  place-reads.Learnt,
+  stands-within-below t,
+  stands-within.Post,
+) (falls-within-at t) falls-within.Post falls-within-Inv-loop falls-within-μ-loop
+falls-within-mul-wide t c = search needs
+
+falls-within-shared-slice-read-wide : (t : ℕ) → falls-within-lts.Need-shared-slice-read-wide (
+  wide-reads.Asked,
+  wide-reads.Learnt,
+  place-reads.Asked,
+  place-reads.Learnt,
+  stands-within-below t,
+  stands-within.Post,
+) (falls-within-at t) falls-within.Post falls-within-Inv-loop falls-within-μ-loop
+falls-within-shared-slice-read-wide t c = search needs
+
+falls-within-wide-requires : (t : ℕ) → falls-within-lts.Need-wide-requires (
+  wide-reads.Asked,
+  wide-reads.Learnt,
+  place-reads.Asked,
+  place-reads.Learnt,
+  stands-within-below t,
+  stands-within.Post,
+) (falls-within-at t) falls-within.Post falls-within-Inv-loop falls-within-μ-loop
+falls-within-wide-requires t c κs = search needs
+
+falls-within-loop-holds : (t : ℕ) → falls-within-lts.Need-loop-holds (
+  wide-reads.Asked,
+  wide-reads.Learnt,
+  place-reads.Asked,
+  place-reads.Learnt,
+  stands-within-below t,
+  stands-within.Post,
+) (falls-within-at t) falls-within.Post falls-within-Inv-loop falls-within-μ-loop
+falls-within-loop-holds t c = (begins (c .before .before .before .before .before .before .before .before .before .before .before .before .before .args .x) (c .before .before .before .before .before .before .before .before .before .before .before .before .before .args .turns) (c .before .before .before .before .before .before .before .before .before .before .before .before .before .pre .1 .0) _ _ (c .wide .ensures), c .before .before .before .before .before .before .before .before .before .before .before .before .before .pre .1 .1)
+
+falls-within-sub-place : (t : ℕ) → falls-within-lts.Need-sub-place (
+  wide-reads.Asked,
+  wide-reads.Learnt,
+  place-reads.Asked,
+  place-reads.Learnt,
+  stands-within-below t,
+  stands-within.Post,
+) (falls-within-at t) falls-within.Post falls-within-Inv-loop falls-within-μ-loop
+falls-within-sub-place t c = search needs
+
+falls-within-mul-place : (t : ℕ) → falls-within-lts.Need-mul-place (
+  wide-reads.Asked,
+  wide-reads.Learnt,
+  place-reads.Asked,
+  place-reads.Learnt,
+  stands-within-below t,
+  stands-within.Post,
+) (falls-within-at t) falls-within.Post falls-within-Inv-loop falls-within-μ-loop
+falls-within-mul-place t c = search needs
+
+falls-within-shared-slice-read-place : (t : ℕ) → falls-within-lts.Need-shared-slice-read-place (
+  wide-reads.Asked,
+  wide-reads.Learnt,
+  place-reads.Asked,
+  place-reads.Learnt,
+  stands-within-below t,
+  stands-within.Post,
+) (falls-within-at t) falls-within.Post falls-within-Inv-loop falls-within-μ-loop
+falls-within-shared-slice-read-place t c = search needs
+
+falls-within-place-requires : (t : ℕ) → falls-within-lts.Need-place-requires (
+  wide-reads.Asked,
+  wide-reads.Learnt,
+  place-reads.Asked,
+  place-reads.Learnt,
+  stands-within-below t,
+  stands-within.Post,
+) (falls-within-at t) falls-within.Post falls-within-Inv-loop falls-within-μ-loop
+falls-within-place-requires t c κs = search needs
+
+falls-within-sub-wide : (t : ℕ) → falls-within-lts.Need-sub-wide (
+  wide-reads.Asked,
+  wide-reads.Learnt,
+  place-reads.Asked,
+  place-reads.Learnt,
+  stands-within-below t,
+  stands-within.Post,
+) (falls-within-at t) falls-within.Post falls-within-Inv-loop falls-within-μ-loop
+falls-within-sub-wide t c = search needs
+
+falls-within-mul-wide-2 : (t : ℕ) → falls-within-lts.Need-mul-wide-2 (
+  wide-reads.Asked,
+  wide-reads.Learnt,
+  place-reads.Asked,
+  place-reads.Learnt,
+  stands-within-below t,
+  stands-within.Post,
+) (falls-within-at t) falls-within.Post falls-within-Inv-loop falls-within-μ-loop
+falls-within-mul-wide-2 t c = search needs
+
+falls-within-shared-slice-read-wide-2 : (t : ℕ) → falls-within-lts.Need-shared-slice-read-wide-2 (
+  wide-reads.Asked,
+  wide-reads.Learnt,
+  place-reads.Asked,
+  place-reads.Learnt,
+  stands-within-below t,
+  stands-within.Post,
+) (falls-within-at t) falls-within.Post falls-within-Inv-loop falls-within-μ-loop
+falls-within-shared-slice-read-wide-2 t c = search needs
+
+falls-within-wide-requires-2 : (t : ℕ) → falls-within-lts.Need-wide-requires-2 (
+  wide-reads.Asked,
+  wide-reads.Learnt,
+  place-reads.Asked,
+  place-reads.Learnt,
+  stands-within-below t,
+  stands-within.Post,
+) (falls-within-at t) falls-within.Post falls-within-Inv-loop falls-within-μ-loop
+falls-within-wide-requires-2 t c κs = search needs
+
+falls-within-sub-stands-within : (t : ℕ) → falls-within-lts.Need-sub-stands-within (
+  wide-reads.Asked,
+  wide-reads.Learnt,
+  place-reads.Asked,
+  place-reads.Learnt,
+  stands-within-below t,
+  stands-within.Post,
+) (falls-within-at t) falls-within.Post falls-within-Inv-loop falls-within-μ-loop
+falls-within-sub-stands-within t c = search needs
+
+falls-within-stands-within-requires : (t : ℕ) → falls-within-lts.Need-stands-within-requires (
+  wide-reads.Asked,
+  wide-reads.Learnt,
+  place-reads.Asked,
+  place-reads.Learnt,
+  stands-within-below t,
+  stands-within.Post,
+) (falls-within-at t) falls-within.Post falls-within-Inv-loop falls-within-μ-loop
+falls-within-stands-within-requires t c κs = (omega (arith, c .before .before .before .before .before .before .before .before .before .before .before .before .before .before .before .before .before .before .before .before .before .pre .0, c .before .before .before .before .before .before .before .before .before .before .before .before .before .if1 .left), ((c .before .before .before .before .before .before .before .before .before .before .before .before .before .before .before .before .before .before .before .before .before .pre .1 .0 .0, listed (c .before .before .before .before .before .before .before .before .before .before .before .before .before .before .before .before .before .before .before .before .before .args .x) (c .before .before .before .before .before .before .before .before .before .before .before .before .before .before .before .before .before .before .before .before .before .args .turns) (c .before .before .before .before .before .before .before .before .before .before .before .before .before .before .before .before .before .before .before .before .before .pre .1 .0) _ (c .before .before .before .before .before .before .before .loop .c) (c .before .before .before .before .before .before .before .loop .inv .0) (c .before .before .before .before .before .before .loop-test .taken) _ (c .before .before .before .before .place .ensures), omega (arith, c .before .before .before .before .before .before .before .before .before .before .before .before .before .before .before .before .before .before .before .before .before .pre .1 .0 .2)), c .before .before .before .before .before .before .before .loop .inv .1))
+
+falls-within-slice-write-falls : (t : ℕ) → falls-within-lts.Need-slice-write-falls (
+  wide-reads.Asked,
+  wide-reads.Learnt,
+  place-reads.Asked,
+  place-reads.Learnt,
+  stands-within-below t,
+  stands-within.Post,
+) (falls-within-at t) falls-within.Post falls-within-Inv-loop falls-within-μ-loop
+falls-within-slice-write-falls t c = falls-slot (c .before .before .before .before .before .before .before .before .before .before .before .before .before .before .before .before .before .before .before .before .before .before .before .before .before .before .before .args .x) (c .before .before .before .before .before .before .before .before .before .before .before .before .before .before .before .before .before .before .before .before .before .before .before .before .before .before .before .args .turns) (c .before .before .before .before .before .before .before .before .before .before .before .before .before .before .before .before .before .before .before .before .before .before .before .before .before .before .before .pre .1 .0) (c .before .before .before .before .before .stands-within .ensures .1)
+
+falls-within-same-length : (t : ℕ) → falls-within-lts.Need-same-length (
+  wide-reads.Asked,
+  wide-reads.Learnt,
+  place-reads.Asked,
+  place-reads.Learnt,
+  stands-within-below t,
+  stands-within.Post,
+) (falls-within-at t) falls-within.Post falls-within-Inv-loop falls-within-μ-loop
+falls-within-same-length t c = set-room _ _ _ _ _ (c .before .before .before .before .before .stands-within .ensures .1 .fell) (c .before .before .before .before .before .before .before .before .before .before .before .before .before .before .before .before .before .before .before .before .before .before .before .before .before .before .before .pre .1 .1 .fell)
+
+falls-within-same-length-2 : (t : ℕ) → falls-within-lts.Need-same-length-2 (
+  wide-reads.Asked,
+  wide-reads.Learnt,
+  place-reads.Asked,
+  place-reads.Learnt,
+  stands-within-below t,
+  stands-within.Post,
+) (falls-within-at t) falls-within.Post falls-within-Inv-loop falls-within-μ-loop
+falls-within-same-length-2 t c = same-room _ _ _ (c .before .before .before .before .before .stands-within .ensures .1 .stood) (c .before .before .before .before .before .before .before .before .before .before .before .before .before .before .before .before .before .before .before .before .before .before .before .before .before .before .before .pre .1 .1 .stood)
+
+falls-within-returns-4 : (t : ℕ) → falls-within-lts.Need-returns-4 (
+  wide-reads.Asked,
+  wide-reads.Learnt,
+  place-reads.Asked,
+  place-reads.Learnt,
+  stands-within-below t,
+  stands-within.Post,
+) (falls-within-at t) falls-within.Post falls-within-Inv-loop falls-within-μ-loop
+falls-within-returns-4 t c = falls-found (c .before .before .before .before .before .before .before .before .before .before .before .before .before .before .before .before .before .before .before .before .before .before .before .before .before .before .before .args .x) (c .before .before .before .before .before .before .before .before .before .before .before .before .before .before .before .before .before .before .before .before .before .before .before .before .before .before .before .args .turns) (c .before .before .before .before .before .before .before .before .before .before .before .before .before .before .before .before .before .before .before .before .before .before .before .before .before .before .before .pre .1 .0) (c .before .before .before .before .before .stands-within .ensures .1) (c .before .before .before .before .before .before .before .before .before .before .before .before .before .before .before .before .before .before .before .if1 .left) (c .before .before .before .before .before .before .before .before .before .before .before .before .before .loop .c) (c .before .before .before .before .before .before .before .before .before .before .before .before .before .loop .inv .0) (c .before .before .before .before .before .before .before .before .before .before .before .before .loop-test .taken) _ _ (c .before .before .before .before .before .before .before .before .before .before .place .ensures) (c .before .before .before .before .before .stands-within .ensures .0) (c .if4 .taken)
+
+falls-within-loop-less : (t : ℕ) → falls-within-lts.Need-loop-less (
+  wide-reads.Asked,
+  wide-reads.Learnt,
+  place-reads.Asked,
+  place-reads.Learnt,
+  stands-within-below t,
+  stands-within.Post,
+) (falls-within-at t) falls-within.Post falls-within-Inv-loop falls-within-μ-loop
+falls-within-loop-less t c = lower (c .before .before .before .before .before .before .before .before .before .before .before .before .before .before .before .before .before .before .before .before .before .before .before .before .before .before .before .args .x) (c .before .before .before .before .before .before .before .before .before .before .before .before .before .before .before .before .before .before .before .before .before .before .before .before .before .before .before .args .turns) (c .before .before .before .before .before .before .before .before .before .before .before .before .before .before .before .before .before .before .before .before .before .before .before .before .before .before .before .pre .1 .0) _ (c .before .before .before .before .before .before .before .before .before .before .before .before .before .loop .c) (c .before .before .before .before .before .before .before .before .before .before .before .before .before .loop .inv .0) (c .before .before .before .before .before .before .before .before .before .before .before .before .loop-test .taken) _ (c .before .before .before .before .before .before .before .before .wide2 .ensures)
+
+falls-within-loop-again : (t : ℕ) → falls-within-lts.Need-loop-again (
+  wide-reads.Asked,
+  wide-reads.Learnt,
+  place-reads.Asked,
+  place-reads.Learnt,
+  stands-within-below t,
+  stands-within.Post,
+) (falls-within-at t) falls-within.Post falls-within-Inv-loop falls-within-μ-loop
+falls-within-loop-again t c = falls-goes-on (c .before .before .before .before .before .before .before .before .before .before .before .before .before .before .before .before .before .before .before .before .before .before .before .before .before .before .before .args .x) (c .before .before .before .before .before .before .before .before .before .before .before .before .before .before .before .before .before .before .before .before .before .before .before .before .before .before .before .args .turns) (c .before .before .before .before .before .before .before .before .before .before .before .before .before .before .before .before .before .before .before .before .before .before .before .before .before .before .before .pre .1 .0) (c .before .before .before .before .before .stands-within .ensures .1) (c .before .before .before .before .before .before .before .before .before .before .before .before .before .before .before .before .before .before .before .if1 .left) (c .before .before .before .before .before .before .before .before .before .before .before .before .before .loop .c) (c .before .before .before .before .before .before .before .before .before .before .before .before .before .loop .inv .0) (c .before .before .before .before .before .before .before .before .before .before .before .before .loop-test .taken) _ _ (c .before .before .before .before .before .before .before .before .before .before .place .ensures) (c .before .before .before .before .before .stands-within .ensures .0) (c .if4 .left) _ (c .before .before .before .before .before .before .before .before .wide2 .ensures)
+
+falls-within-slice-write-falls-2 : (t : ℕ) → falls-within-lts.Need-slice-write-falls-2 (
+  wide-reads.Asked,
+  wide-reads.Learnt,
+  place-reads.Asked,
+  place-reads.Learnt,
+  stands-within-below t,
+  stands-within.Post,
+) (falls-within-at t) falls-within.Post falls-within-Inv-loop falls-within-μ-loop
+falls-within-slice-write-falls-2 t c = falls-slot (c .before .before .before .before .before .before .before .before .before .before .before .before .before .before .before .args .x) (c .before .before .before .before .before .before .before .before .before .before .before .before .before .before .before .args .turns) (c .before .before .before .before .before .before .before .before .before .before .before .before .before .before .before .pre .1 .0) (c .before .loop .inv .1)
+
+falls-within-same-length-3 : (t : ℕ) → falls-within-lts.Need-same-length-3 (
+  wide-reads.Asked,
+  wide-reads.Learnt,
+  place-reads.Asked,
+  place-reads.Learnt,
+  stands-within-below t,
+  stands-within.Post,
+) (falls-within-at t) falls-within.Post falls-within-Inv-loop falls-within-μ-loop
+falls-within-same-length-3 t c = set-room _ _ _ _ _ (c .before .loop .inv .1 .fell) (c .before .before .before .before .before .before .before .before .before .before .before .before .before .before .before .pre .1 .1 .fell)
+
+falls-within-same-length-4 : (t : ℕ) → falls-within-lts.Need-same-length-4 (
+  wide-reads.Asked,
+  wide-reads.Learnt,
+  place-reads.Asked,
+  place-reads.Learnt,
+  stands-within-below t,
+  stands-within.Post,
+) (falls-within-at t) falls-within.Post falls-within-Inv-loop falls-within-μ-loop
+falls-within-same-length-4 t c = same-room _ _ _ (c .before .loop .inv .1 .stood) (c .before .before .before .before .before .before .before .before .before .before .before .before .before .before .before .pre .1 .1 .stood)
+
+falls-within-returns-5 : (t : ℕ) → falls-within-lts.Need-returns-5 (
+  wide-reads.Asked,
+  wide-reads.Learnt,
+  place-reads.Asked,
+  place-reads.Learnt,
+  stands-within-below t,
+  stands-within.Post,
+) (falls-within-at t) falls-within.Post falls-within-Inv-loop falls-within-μ-loop
+falls-within-returns-5 t c = falls-ends (c .before .before .before .before .before .before .before .before .before .before .before .before .before .before .before .args .x) (c .before .before .before .before .before .before .before .before .before .before .before .before .before .before .before .args .turns) (c .before .before .before .before .before .before .before .before .before .before .before .before .before .before .before .pre .1 .0) (c .before .loop .inv .1) (c .before .before .before .before .before .before .before .if1 .left) (c .before .loop .c) (c .before .loop .inv .0) (c .loop-test .left)
+
+abbrev stands-within-Inv-loop : stands-within-lts.InvT-loop
+stands-within-Inv-loop marks objectors targets head next x turns falls₀ stands₀ slot known c₀ falls stands c = Walk targets x (Beaten marks objectors targets turns) c × Known (bookOf marks objectors targets) falls stands
+
+abbrev stands-within-μ-loop : stands-within-lts.MeasureT-loop
+stands-within-μ-loop marks objectors targets head next x turns falls₀ stands₀ slot known c₀ falls stands c = c
+
+stands-within-shared-slice-read-if1 : (t : ℕ) → stands-within-lts.Need-shared-slice-read-if1 (
+  wide-reads.Asked,
+  wide-reads.Learnt,
+  place-reads.Asked,
+  place-reads.Learnt,
+  falls-within-below t,
+  falls-within.Post,
+) (stands-within-at t) stands-within.Post stands-within-Inv-loop stands-within-μ-loop
+stands-within-shared-slice-read-if1 t c = search needs
+
+stands-within-returns : (t : ℕ) → stands-within-lts.Need-returns (
+  wide-reads.Asked,
+  wide-reads.Learnt,
+  place-reads.Asked,
+  place-reads.Learnt,
+  falls-within-below t,
+  falls-within.Post,
+) (stands-within-at t) stands-within.Post stands-within-Inv-loop stands-within-μ-loop
+stands-within-returns t c = stands-never (c .before .before .before .before .before .before .before .before .before .args .x) (c .before .before .before .before .before .before .before .before .before .args .turns) (c .before .before .before .before .before .before .before .before .before .pre .1 .0) (c .before .before .before .before .before .before .before .before .before .pre .1 .1) (c .if1 .taken)
+
+stands-within-mul-slot : (t : ℕ) → stands-within-lts.Need-mul-slot (
+  wide-reads.Asked,
+  wide-reads.Learnt,
+  place-reads.Asked,
+  place-reads.Learnt,
+  falls-within-below t,
+  falls-within.Post,
+) (stands-within-at t) stands-within.Post stands-within-Inv-loop stands-within-μ-loop
+stands-within-mul-slot t c = search needs
+
+stands-within-add-slot : (t : ℕ) → stands-within-lts.Need-add-slot (
+  wide-reads.Asked,
+  wide-reads.Learnt,
+  place-reads.Asked,
+  place-reads.Learnt,
+  falls-within-below t,
+  falls-within.Post,
+) (stands-within-at t) stands-within.Post stands-within-Inv-loop stands-within-μ-loop
+stands-within-add-slot t c = search needs
+
+stands-within-slice-read-known : (t : ℕ) → stands-within-lts.Need-slice-read-known (
+  wide-reads.Asked,
+  wide-reads.Learnt,
+  place-reads.Asked,
+  place-reads.Learnt,
+  falls-within-below t,
+  falls-within.Post,
+) (stands-within-at t) stands-within.Post stands-within-Inv-loop stands-within-μ-loop
+stands-within-slice-read-known t c = search needs
+
+stands-within-returns-2 : (t : ℕ) → stands-within-lts.Need-returns-2 (
+  wide-reads.Asked,
+  wide-reads.Learnt,
+  place-reads.Asked,
+  place-reads.Learnt,
+  falls-within-below t,
+  falls-within.Post,
+) (stands-within-at t) stands-within.Post stands-within-Inv-loop stands-within-μ-loop
+stands-within-returns-2 t c = stands-believed (c .before .before .before .before .before .before .before .before .before .before .before .args .x) (c .before .before .before .before .before .before .before .before .before .before .before .args .turns) (c .before .before .before .before .before .before .before .before .before .before .before .pre .1 .0) (c .before .before .before .before .before .before .before .before .before .before .before .pre .1 .1) false (c .if2 .taken)
+
+stands-within-returns-3 : (t : ℕ) → stands-within-lts.Need-returns-3 (
+  wide-reads.Asked,
+  wide-reads.Learnt,
+  place-reads.Asked,
+  place-reads.Learnt,
+  falls-within-below t,
+  falls-within.Post,
+) (stands-within-at t) stands-within.Post stands-within-Inv-loop stands-within-μ-loop
+stands-within-returns-3 t c = stands-believed (c .before .before .before .before .before .before .before .before .before .before .before .before .args .x) (c .before .before .before .before .before .before .before .before .before .before .before .before .args .turns) (c .before .before .before .before .before .before .before .before .before .before .before .before .pre .1 .0) (c .before .before .before .before .before .before .before .before .before .before .before .before .pre .1 .1) true (c .if3 .taken)
+
+stands-within-mul-wide : (t : ℕ) → stands-within-lts.Need-mul-wide (
+  wide-reads.Asked,
+  wide-reads.Learnt,
+  place-reads.Asked,
+  place-reads.Learnt,
+  falls-within-below t,
+  falls-within.Post,
+) (stands-within-at t) stands-within.Post stands-within-Inv-loop stands-within-μ-loop
+stands-within-mul-wide t c = search needs
+
+stands-within-shared-slice-read-wide : (t : ℕ) → stands-within-lts.Need-shared-slice-read-wide (
+  wide-reads.Asked,
+  wide-reads.Learnt,
+  place-reads.Asked,
+  place-reads.Learnt,
+  falls-within-below t,
+  falls-within.Post,
+) (stands-within-at t) stands-within.Post stands-within-Inv-loop stands-within-μ-loop
+stands-within-shared-slice-read-wide t c = search needs
+
+stands-within-wide-requires : (t : ℕ) → stands-within-lts.Need-wide-requires (
+  wide-reads.Asked,
+  wide-reads.Learnt,
+  place-reads.Asked,
+  place-reads.Learnt,
+  falls-within-below t,
+  falls-within.Post,
+) (stands-within-at t) stands-within.Post stands-within-Inv-loop stands-within-μ-loop
+stands-within-wide-requires t c κs = search needs
+
+stands-within-loop-holds : (t : ℕ) → stands-within-lts.Need-loop-holds (
+  wide-reads.Asked,
+  wide-reads.Learnt,
+  place-reads.Asked,
+  place-reads.Learnt,
+  falls-within-below t,
+  falls-within.Post,
+) (stands-within-at t) stands-within.Post stands-within-Inv-loop stands-within-μ-loop
+stands-within-loop-holds t c = (begins (c .before .before .before .before .before .before .before .before .before .before .before .before .before .before .args .x) (c .before .before .before .before .before .before .before .before .before .before .before .before .before .before .args .turns) (c .before .before .before .before .before .before .before .before .before .before .before .before .before .before .pre .1 .0) _ _ (c .wide .ensures), c .before .before .before .before .before .before .before .before .before .before .before .before .before .before .pre .1 .1)
+
+stands-within-same-length : (t : ℕ) → stands-within-lts.Need-same-length (
+  wide-reads.Asked,
+  wide-reads.Learnt,
+  place-reads.Asked,
+  place-reads.Learnt,
+  falls-within-below t,
+  falls-within.Post,
+) (stands-within-at t) stands-within.Post stands-within-Inv-loop stands-within-μ-loop
+stands-within-same-length t c = same-room _ _ _ (c .before .before .loop .inv .1 .fell) (c .before .before .before .before .before .before .before .before .before .before .before .before .before .before .before .before .before .pre .1 .1 .fell)
+
+stands-within-same-length-2 : (t : ℕ) → stands-within-lts.Need-same-length-2 (
+  wide-reads.Asked,
+  wide-reads.Learnt,
+  place-reads.Asked,
+  place-reads.Learnt,
+  falls-within-below t,
+  falls-within.Post,
+) (stands-within-at t) stands-within.Post stands-within-Inv-loop stands-within-μ-loop
+stands-within-same-length-2 t c = same-room _ _ _ (c .before .before .loop .inv .1 .stood) (c .before .before .before .before .before .before .before .before .before .before .before .before .before .before .before .before .before .pre .1 .1 .stood)
+
+stands-within-returns-4 : (t : ℕ) → stands-within-lts.Need-returns-4 (
+  wide-reads.Asked,
+  wide-reads.Learnt,
+  place-reads.Asked,
+  place-reads.Learnt,
+  falls-within-below t,
+  falls-within.Post,
+) (stands-within-at t) stands-within.Post stands-within-Inv-loop stands-within-μ-loop
+stands-within-returns-4 t c = stands-too-late (c .before .before .before .before .before .before .before .before .before .before .before .before .before .before .before .before .before .args .x) (c .before .before .before .before .before .before .before .before .before .before .before .before .before .before .before .before .before .args .turns) (c .before .before .before .before .before .before .before .before .before .before .before .before .before .before .before .before .before .pre .1 .0) (c .before .before .loop .inv .1) (c .before .before .loop .c) (c .before .before .loop .inv .0) (c .before .loop-test .taken) (c .if4 .taken)
+
+stands-within-sub-place : (t : ℕ) → stands-within-lts.Need-sub-place (
+  wide-reads.Asked,
+  wide-reads.Learnt,
+  place-reads.Asked,
+  place-reads.Learnt,
+  falls-within-below t,
+  falls-within.Post,
+) (stands-within-at t) stands-within.Post stands-within-Inv-loop stands-within-μ-loop
+stands-within-sub-place t c = search needs
+
+stands-within-mul-place : (t : ℕ) → stands-within-lts.Need-mul-place (
+  wide-reads.Asked,
+  wide-reads.Learnt,
+  place-reads.Asked,
+  place-reads.Learnt,
+  falls-within-below t,
+  falls-within.Post,
+) (stands-within-at t) stands-within.Post stands-within-Inv-loop stands-within-μ-loop
+stands-within-mul-place t c = search needs
+
+stands-within-shared-slice-read-place : (t : ℕ) → stands-within-lts.Need-shared-slice-read-place (
+  wide-reads.Asked,
+  wide-reads.Learnt,
+  place-reads.Asked,
+  place-reads.Learnt,
+  falls-within-below t,
+  falls-within.Post,
+) (stands-within-at t) stands-within.Post stands-within-Inv-loop stands-within-μ-loop
+stands-within-shared-slice-read-place t c = search needs
+
+stands-within-place-requires : (t : ℕ) → stands-within-lts.Need-place-requires (
+  wide-reads.Asked,
+  wide-reads.Learnt,
+  place-reads.Asked,
+  place-reads.Learnt,
+  falls-within-below t,
+  falls-within.Post,
+) (stands-within-at t) stands-within.Post stands-within-Inv-loop stands-within-μ-loop
+stands-within-place-requires t c κs = search needs
+
+stands-within-sub-wide : (t : ℕ) → stands-within-lts.Need-sub-wide (
+  wide-reads.Asked,
+  wide-reads.Learnt,
+  place-reads.Asked,
+  place-reads.Learnt,
+  falls-within-below t,
+  falls-within.Post,
+) (stands-within-at t) stands-within.Post stands-within-Inv-loop stands-within-μ-loop
+stands-within-sub-wide t c = search needs
+
+stands-within-mul-wide-2 : (t : ℕ) → stands-within-lts.Need-mul-wide-2 (
+  wide-reads.Asked,
+  wide-reads.Learnt,
+  place-reads.Asked,
+  place-reads.Learnt,
+  falls-within-below t,
+  falls-within.Post,
+) (stands-within-at t) stands-within.Post stands-within-Inv-loop stands-within-μ-loop
+stands-within-mul-wide-2 t c = search needs
+
+stands-within-shared-slice-read-wide-2 : (t : ℕ) → stands-within-lts.Need-shared-slice-read-wide-2 (
+  wide-reads.Asked,
+  wide-reads.Learnt,
+  place-reads.Asked,
+  place-reads.Learnt,
+  falls-within-below t,
+  falls-within.Post,
+) (stands-within-at t) stands-within.Post stands-within-Inv-loop stands-within-μ-loop
+stands-within-shared-slice-read-wide-2 t c = search needs
+
+stands-within-wide-requires-2 : (t : ℕ) → stands-within-lts.Need-wide-requires-2 (
+  wide-reads.Asked,
+  wide-reads.Learnt,
+  place-reads.Asked,
+  place-reads.Learnt,
+  falls-within-below t,
+  falls-within.Post,
+) (stands-within-at t) stands-within.Post stands-within-Inv-loop stands-within-μ-loop
+stands-within-wide-requires-2 t c κs = search needs
+
+stands-within-sub-falls-within : (t : ℕ) → stands-within-lts.Need-sub-falls-within (
+  wide-reads.Asked,
+  wide-reads.Learnt,
+  place-reads.Asked,
+  place-reads.Learnt,
+  falls-within-below t,
+  falls-within.Post,
+) (stands-within-at t) stands-within.Post stands-within-Inv-loop stands-within-μ-loop
+stands-within-sub-falls-within t c = search needs
+
+stands-within-falls-within-requires : (t : ℕ) → stands-within-lts.Need-falls-within-requires (
+  wide-reads.Asked,
+  wide-reads.Learnt,
+  place-reads.Asked,
+  place-reads.Learnt,
+  falls-within-below t,
+  falls-within.Post,
+) (stands-within-at t) stands-within.Post stands-within-Inv-loop stands-within-μ-loop
+stands-within-falls-within-requires t c κs = (omega (arith, c .before .before .before .before .before .before .before .before .before .before .before .before .before .before .before .before .before .before .before .before .before .before .before .pre .0, c .before .before .before .before .before .before .if4 .left), ((c .before .before .before .before .before .before .before .before .before .before .before .before .before .before .before .before .before .before .before .before .before .before .before .pre .1 .0 .0, listed (c .before .before .before .before .before .before .before .before .before .before .before .before .before .before .before .before .before .before .before .before .before .before .before .args .x) (c .before .before .before .before .before .before .before .before .before .before .before .before .before .before .before .before .before .before .before .before .before .before .before .args .turns) (c .before .before .before .before .before .before .before .before .before .before .before .before .before .before .before .before .before .before .before .before .before .before .before .pre .1 .0) _ (c .before .before .before .before .before .before .before .before .loop .c) (c .before .before .before .before .before .before .before .before .loop .inv .0) (c .before .before .before .before .before .before .before .loop-test .taken) _ (c .before .before .before .before .place .ensures), omega (arith, c .before .before .before .before .before .before .before .before .before .before .before .before .before .before .before .before .before .before .before .before .before .before .before .pre .1 .0 .2)), c .before .before .before .before .before .before .before .before .loop .inv .1))
+
+stands-within-slice-write-stands : (t : ℕ) → stands-within-lts.Need-slice-write-stands (
+  wide-reads.Asked,
+  wide-reads.Learnt,
+  place-reads.Asked,
+  place-reads.Learnt,
+  falls-within-below t,
+  falls-within.Post,
+) (stands-within-at t) stands-within.Post stands-within-Inv-loop stands-within-μ-loop
+stands-within-slice-write-stands t c = stands-slot (c .before .before .before .before .before .before .before .before .before .before .before .before .before .before .before .before .before .before .before .before .before .before .before .before .before .before .before .before .before .args .x) (c .before .before .before .before .before .before .before .before .before .before .before .before .before .before .before .before .before .before .before .before .before .before .before .before .before .before .before .before .before .args .turns) (c .before .before .before .before .before .before .before .before .before .before .before .before .before .before .before .before .before .before .before .before .before .before .before .before .before .before .before .before .before .pre .1 .0) (c .before .before .before .before .before .falls-within .ensures .1)
+
+stands-within-same-length-3 : (t : ℕ) → stands-within-lts.Need-same-length-3 (
+  wide-reads.Asked,
+  wide-reads.Learnt,
+  place-reads.Asked,
+  place-reads.Learnt,
+  falls-within-below t,
+  falls-within.Post,
+) (stands-within-at t) stands-within.Post stands-within-Inv-loop stands-within-μ-loop
+stands-within-same-length-3 t c = same-room _ _ _ (c .before .before .before .before .before .falls-within .ensures .1 .fell) (c .before .before .before .before .before .before .before .before .before .before .before .before .before .before .before .before .before .before .before .before .before .before .before .before .before .before .before .before .before .pre .1 .1 .fell)
+
+stands-within-same-length-4 : (t : ℕ) → stands-within-lts.Need-same-length-4 (
+  wide-reads.Asked,
+  wide-reads.Learnt,
+  place-reads.Asked,
+  place-reads.Learnt,
+  falls-within-below t,
+  falls-within.Post,
+) (stands-within-at t) stands-within.Post stands-within-Inv-loop stands-within-μ-loop
+stands-within-same-length-4 t c = set-room _ _ _ _ _ (c .before .before .before .before .before .falls-within .ensures .1 .stood) (c .before .before .before .before .before .before .before .before .before .before .before .before .before .before .before .before .before .before .before .before .before .before .before .before .before .before .before .before .before .pre .1 .1 .stood)
+
+stands-within-returns-5 : (t : ℕ) → stands-within-lts.Need-returns-5 (
+  wide-reads.Asked,
+  wide-reads.Learnt,
+  place-reads.Asked,
+  place-reads.Learnt,
+  falls-within-below t,
+  falls-within.Post,
+) (stands-within-at t) stands-within.Post stands-within-Inv-loop stands-within-μ-loop
+stands-within-returns-5 t c = stands-lost (c .before .before .before .before .before .before .before .before .before .before .before .before .before .before .before .before .before .before .before .before .before .before .before .before .before .before .before .before .before .args .x) (c .before .before .before .before .before .before .before .before .before .before .before .before .before .before .before .before .before .before .before .before .before .before .before .before .before .before .before .before .before .args .turns) (c .before .before .before .before .before .before .before .before .before .before .before .before .before .before .before .before .before .before .before .before .before .before .before .before .before .before .before .before .before .pre .1 .0) (c .before .before .before .before .before .falls-within .ensures .1) (c .before .before .before .before .before .before .before .before .before .before .before .before .before .before .loop .c) (c .before .before .before .before .before .before .before .before .before .before .before .before .before .before .loop .inv .0) (c .before .before .before .before .before .before .before .before .before .before .before .before .before .loop-test .taken) (c .before .before .before .before .before .before .before .before .before .before .before .before .if4 .left) _ _ (c .before .before .before .before .before .before .before .before .before .before .place .ensures) (c .before .before .before .before .before .falls-within .ensures .0) (not-true _ (c .if5 .taken))
+
+stands-within-loop-less : (t : ℕ) → stands-within-lts.Need-loop-less (
+  wide-reads.Asked,
+  wide-reads.Learnt,
+  place-reads.Asked,
+  place-reads.Learnt,
+  falls-within-below t,
+  falls-within.Post,
+) (stands-within-at t) stands-within.Post stands-within-Inv-loop stands-within-μ-loop
+stands-within-loop-less t c = lower (c .before .before .before .before .before .before .before .before .before .before .before .before .before .before .before .before .before .before .before .before .before .before .before .before .before .before .before .before .before .args .x) (c .before .before .before .before .before .before .before .before .before .before .before .before .before .before .before .before .before .before .before .before .before .before .before .before .before .before .before .before .before .args .turns) (c .before .before .before .before .before .before .before .before .before .before .before .before .before .before .before .before .before .before .before .before .before .before .before .before .before .before .before .before .before .pre .1 .0) _ (c .before .before .before .before .before .before .before .before .before .before .before .before .before .before .loop .c) (c .before .before .before .before .before .before .before .before .before .before .before .before .before .before .loop .inv .0) (c .before .before .before .before .before .before .before .before .before .before .before .before .before .loop-test .taken) _ (c .before .before .before .before .before .before .before .before .wide2 .ensures)
+
+stands-within-loop-again : (t : ℕ) → stands-within-lts.Need-loop-again (
+  wide-reads.Asked,
+  wide-reads.Learnt,
+  place-reads.Asked,
+  place-reads.Learnt,
+  falls-within-below t,
+  falls-within.Post,
+) (stands-within-at t) stands-within.Post stands-within-Inv-loop stands-within-μ-loop
+stands-within-loop-again t c = stands-goes-on (c .before .before .before .before .before .before .before .before .before .before .before .before .before .before .before .before .before .before .before .before .before .before .before .before .before .before .before .before .before .args .x) (c .before .before .before .before .before .before .before .before .before .before .before .before .before .before .before .before .before .before .before .before .before .before .before .before .before .before .before .before .before .args .turns) (c .before .before .before .before .before .before .before .before .before .before .before .before .before .before .before .before .before .before .before .before .before .before .before .before .before .before .before .before .before .pre .1 .0) (c .before .before .before .before .before .falls-within .ensures .1) (c .before .before .before .before .before .before .before .before .before .before .before .before .before .before .loop .c) (c .before .before .before .before .before .before .before .before .before .before .before .before .before .before .loop .inv .0) (c .before .before .before .before .before .before .before .before .before .before .before .before .before .loop-test .taken) (c .before .before .before .before .before .before .before .before .before .before .before .before .if4 .left) _ _ (c .before .before .before .before .before .before .before .before .before .before .place .ensures) (c .before .before .before .before .before .falls-within .ensures .0) (not-false _ (c .if5 .left)) _ (c .before .before .before .before .before .before .before .before .wide2 .ensures)
+
+stands-within-slice-write-stands-2 : (t : ℕ) → stands-within-lts.Need-slice-write-stands-2 (
+  wide-reads.Asked,
+  wide-reads.Learnt,
+  place-reads.Asked,
+  place-reads.Learnt,
+  falls-within-below t,
+  falls-within.Post,
+) (stands-within-at t) stands-within.Post stands-within-Inv-loop stands-within-μ-loop
+stands-within-slice-write-stands-2 t c = stands-slot (c .before .before .before .before .before .before .before .before .before .before .before .before .before .before .before .before .args .x) (c .before .before .before .before .before .before .before .before .before .before .before .before .before .before .before .before .args .turns) (c .before .before .before .before .before .before .before .before .before .before .before .before .before .before .before .before .pre .1 .0) (c .before .loop .inv .1)
+
+stands-within-same-length-5 : (t : ℕ) → stands-within-lts.Need-same-length-5 (
+  wide-reads.Asked,
+  wide-reads.Learnt,
+  place-reads.Asked,
+  place-reads.Learnt,
+  falls-within-below t,
+  falls-within.Post,
+) (stands-within-at t) stands-within.Post stands-within-Inv-loop stands-within-μ-loop
+stands-within-same-length-5 t c = same-room _ _ _ (c .before .loop .inv .1 .fell) (c .before .before .before .before .before .before .before .before .before .before .before .before .before .before .before .before .pre .1 .1 .fell)
+
+stands-within-same-length-6 : (t : ℕ) → stands-within-lts.Need-same-length-6 (
+  wide-reads.Asked,
+  wide-reads.Learnt,
+  place-reads.Asked,
+  place-reads.Learnt,
+  falls-within-below t,
+  falls-within.Post,
+) (stands-within-at t) stands-within.Post stands-within-Inv-loop stands-within-μ-loop
+stands-within-same-length-6 t c = set-room _ _ _ _ _ (c .before .loop .inv .1 .stood) (c .before .before .before .before .before .before .before .before .before .before .before .before .before .before .before .before .pre .1 .1 .stood)
+
+stands-within-returns-6 : (t : ℕ) → stands-within-lts.Need-returns-6 (
+  wide-reads.Asked,
+  wide-reads.Learnt,
+  place-reads.Asked,
+  place-reads.Learnt,
+  falls-within-below t,
+  falls-within.Post,
+) (stands-within-at t) stands-within.Post stands-within-Inv-loop stands-within-μ-loop
+stands-within-returns-6 t c = stands-ends (c .before .before .before .before .before .before .before .before .before .before .before .before .before .before .before .before .args .x) (c .before .before .before .before .before .before .before .before .before .before .before .before .before .before .before .before .args .turns) (c .before .before .before .before .before .before .before .before .before .before .before .before .before .before .before .before .pre .1 .0) (c .before .loop .inv .1) (c .before .loop .c) (c .before .loop .inv .0) (c .before .before .before .before .before .before .before .if1 .left) (c .loop-test .left)
+
+pub +falls-within+stands-within-spec : {M : Type 1} → statement M
++falls-within+stands-within-spec =
+    close μ-falls-within μ-stands-within (λ t. falls-within-lts.spec (
+      wide-reads.Asked,
+      wide-reads.Learnt,
+      place-reads.Asked,
+      place-reads.Learnt,
+      stands-within-below t,
+      stands-within.Post,
+    )
+    (falls-within-at t)
+    falls-within.Post
+    falls-within-Inv-loop
+    falls-within-μ-loop
+    (falls-within-returns t)
+    (falls-within-mul-slot t)
+    (falls-within-add-slot t)
+    (falls-within-slice-read-known t)
+    (falls-within-returns-2 t)
+    (falls-within-returns-3 t)
+    (falls-within-mul-wide t)
+    (falls-within-shared-slice-read-wide t)
+    (falls-within-wide-requires t)
+    (falls-within-loop-holds t)
+    (falls-within-sub-place t)
+    (falls-within-mul-place t)
+    (falls-within-shared-slice-read-place t)
+    (falls-within-place-requires t)
+    (falls-within-sub-wide t)
+    (falls-within-mul-wide-2 t)
+    (falls-within-shared-slice-read-wide-2 t)
+    (falls-within-wide-requires-2 t)
+    (falls-within-sub-stands-within t)
+    (falls-within-stands-within-requires t)
+    (falls-within-slice-write-falls t)
+    (falls-within-same-length t)
+    (falls-within-same-length-2 t)
+    (falls-within-returns-4 t)
+    (falls-within-loop-less t)
+    (falls-within-loop-again t)
+    (falls-within-slice-write-falls-2 t)
+    (falls-within-same-length-3 t)
+    (falls-within-same-length-4 t)
+    (falls-within-returns-5 t))
+    λ t. stands-within-lts.spec (
+      wide-reads.Asked,
+      wide-reads.Learnt,
+      place-reads.Asked,
+      place-reads.Learnt,
+      falls-within-below t,
+      falls-within.Post,
+    )
+    (stands-within-at t)
+    stands-within.Post
+    stands-within-Inv-loop
+    stands-within-μ-loop
+    (stands-within-shared-slice-read-if1 t)
+    (stands-within-returns t)
+    (stands-within-mul-slot t)
+    (stands-within-add-slot t)
+    (stands-within-slice-read-known t)
+    (stands-within-returns-2 t)
+    (stands-within-returns-3 t)
+    (stands-within-mul-wide t)
+    (stands-within-shared-slice-read-wide t)
+    (stands-within-wide-requires t)
+    (stands-within-loop-holds t)
+    (stands-within-same-length t)
+    (stands-within-same-length-2 t)
+    (stands-within-returns-4 t)
+    (stands-within-sub-place t)
+    (stands-within-mul-place t)
+    (stands-within-shared-slice-read-place t)
+    (stands-within-place-requires t)
+    (stands-within-sub-wide t)
+    (stands-within-mul-wide-2 t)
+    (stands-within-shared-slice-read-wide-2 t)
+    (stands-within-wide-requires-2 t)
+    (stands-within-sub-falls-within t)
+    (stands-within-falls-within-requires t)
+    (stands-within-slice-write-stands t)
+    (stands-within-same-length-3 t)
+    (stands-within-same-length-4 t)
+    (stands-within-returns-5 t)
+    (stands-within-loop-less t)
+    (stands-within-loop-again t)
+    (stands-within-slice-write-stands-2 t)
+    (stands-within-same-length-5 t)
+    (stands-within-same-length-6 t)
+    (stands-within-returns-6 t)

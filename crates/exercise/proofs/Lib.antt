@@ -1,0 +1,4 @@
+pub mod Entries
+pub mod Exercise
+pub mod Steps
+pub mod Table

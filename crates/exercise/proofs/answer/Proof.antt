@@ -1,0 +1,78 @@
+-- `answer` chains the objections by target, begins with empty tables and asks the two questions in turn.
+use mathlib.Core.Path.{sym, _∙_}
+use native.Mathlib.Omega.{arith}
+use Rattle.chain.proofs.Links.{all-zero}
+use Rattle.exercise.proofs.Exercise.{answers-falls, answers-stands, answers-neither}
+use Rattle.exercise.proofs.Table.{fresh-both}
+use borrow.Author.Needs.{needs}
+use Rattle.exercise.proofs.answer.Statement.{statement}
+use Rattle.exercise.proofs.answer.Tie as tie
+
+slice-aggregate-chain : tie.Need-slice-aggregate-chain
+slice-aggregate-chain c = search needs
+
+slice-aggregate-chain-2 : tie.Need-slice-aggregate-chain-2
+slice-aggregate-chain-2 c = search needs
+
+chain-requires : tie.Need-chain-requires
+chain-requires c κs = ((omega (arith, c .before .before .before .before .before .pre .0 .few-pairs, c .before .before .before .before .before .pre .0 .order .paired), omega (arith, c .before .before .before .before .before .pre .0 .few-pairs, c .before .before .before .before .before .pre .0 .order .paired), search needs), (λ e h. omega (arith, c .before .before .before .before .before .pre .0 .order .target e (omega (arith, c .before .before .before .before .before .pre .0 .order .paired)), c .before .before .before .before .before .pre .0 .few-marks), λ x. all-zero 1024 x))
+
+slice-aggregate-falls-within : tie.Need-slice-aggregate-falls-within
+slice-aggregate-falls-within c = search needs
+
+slice-aggregate-falls-within-2 : tie.Need-slice-aggregate-falls-within-2
+slice-aggregate-falls-within-2 c = search needs
+
+slice-aggregate-falls-within-3 : tie.Need-slice-aggregate-falls-within-3
+slice-aggregate-falls-within-3 c = search needs
+
+slice-aggregate-falls-within-4 : tie.Need-slice-aggregate-falls-within-4
+slice-aggregate-falls-within-4 c = search needs
+
+falls-within-requires : tie.Need-falls-within-requires
+falls-within-requires c κs = ((record { handed = c .before .before .before .before .before .before .before .before .before .before .before .before .pre .0; chained = c .before .before .before .before .before .before .chain .ensures; head-room = search needs; next-room = search needs }, c .before .before .before .before .before .before .before .before .before .before .before .before .pre .1, c .before .before .before .before .before .before .before .before .before .before .before .before .pre .2), fresh-both _)
+
+returns : tie.Need-returns
+returns c = answers-falls _ _ _ (sym (c .before .before .before .falls-within .ensures .0) ∙ c .if1 .taken)
+
+slice-aggregate-stands-within : tie.Need-slice-aggregate-stands-within
+slice-aggregate-stands-within c = search needs
+
+slice-aggregate-stands-within-2 : tie.Need-slice-aggregate-stands-within-2
+slice-aggregate-stands-within-2 c = search needs
+
+slice-aggregate-stands-within-3 : tie.Need-slice-aggregate-stands-within-3
+slice-aggregate-stands-within-3 c = search needs
+
+slice-aggregate-stands-within-4 : tie.Need-slice-aggregate-stands-within-4
+slice-aggregate-stands-within-4 c = search needs
+
+stands-within-requires : tie.Need-stands-within-requires
+stands-within-requires c κs = ((record { handed = c .before .before .before .before .before .before .before .before .before .before .before .before .before .before .before .before .before .before .before .before .pre .0; chained = c .before .before .before .before .before .before .before .before .before .before .before .before .before .before .chain .ensures; head-room = search needs; next-room = search needs }, c .before .before .before .before .before .before .before .before .before .before .before .before .before .before .before .before .before .before .before .before .pre .1, c .before .before .before .before .before .before .before .before .before .before .before .before .before .before .before .before .before .before .before .before .pre .2), c .before .before .before .before .before .before .before .falls-within .ensures .1)
+
+returns-2 : tie.Need-returns-2
+returns-2 c = answers-stands _ _ _ (sym (c .before .before .before .stands-within .ensures .0) ∙ c .if2 .taken)
+
+returns-3 : tie.Need-returns-3
+returns-3 c = answers-neither _ _ _ (sym (c .before .before .before .before .before .before .before .before .before .before .before .falls-within .ensures .0) ∙ c .before .before .before .before .before .before .before .before .if1 .left) (sym (c .before .before .before .stands-within .ensures .0) ∙ c .if2 .left)
+
+pub answer-spec : {M : Type 1} → statement M
+answer-spec =
+    tie.close
+    (tie.spec
+    slice-aggregate-chain
+    slice-aggregate-chain-2
+    chain-requires
+    slice-aggregate-falls-within
+    slice-aggregate-falls-within-2
+    slice-aggregate-falls-within-3
+    slice-aggregate-falls-within-4
+    falls-within-requires
+    returns
+    slice-aggregate-stands-within
+    slice-aggregate-stands-within-2
+    slice-aggregate-stands-within-3
+    slice-aggregate-stands-within-4
+    stands-within-requires
+    returns-2
+    returns-3)

@@ -1,0 +1,35 @@
+-- From accepted lists to the solver, and from the solver to what the calls promise.
+use mathlib.Core.List.{List}
+use mathlib.Core.Path.{_≡_}
+use Prim.Native.Nat.{ℕ, _≤_}
+use lib.ListN.{length}
+use Rattle.game.specs.Book.{bookOf}
+use Rattle.game.specs.Label.{Verdict, Means, labelNumber, lengthNumber}
+use Rattle.chain.specs.Handed.{Handed}
+use Rattle.label.specs.Labelled.{Solved}
+use Rattle.pairs.specs.Refuses.{Lists}
+use Rattle.answer.specs.Answer.{Begins}
+
+-- lists that are accepted can be solved
+pub handed : (marks objectors targets : List ℕ) → Lists marks objectors targets → Handed marks objectors targets
+handed marks objectors targets l = record { few-marks = l .few-marks; few-pairs = l .few-pairs; order = l .order }
+
+-- what the solver leaves in the rooms is what the calls promise
+module _ (marks objectors targets labels lengths labels′ lengths′ : List ℕ) (s : Solved marks objectors targets labels lengths labels′ lengths′) where
+  pub labels-begin : length marks ≤ length labels → length labels′ ≡ length labels → Begins (length marks) (λ x e. (v : Verdict) × Means (bookOf marks objectors targets) x v × (e ≡ labelNumber v)) labels labels′
+  unfolding bookOf
+  labels-begin h e = record {
+    fits = h;
+    same = e;
+    each = λ x l. let t = s .labelled .told x l in (t .verdict, t .means, t .label-is);
+    rest = s .labels-rest;
+  }
+
+  pub lengths-begin : length marks ≤ length lengths → length lengths′ ≡ length lengths → Begins (length marks) (λ x e. (v : Verdict) × Means (bookOf marks objectors targets) x v × (e ≡ lengthNumber v)) lengths lengths′
+  unfolding bookOf
+  lengths-begin h e = record {
+    fits = h;
+    same = e;
+    each = λ x l. let t = s .labelled .told x l in (t .verdict, t .means, t .length-is);
+    rest = s .lengths-rest;
+  }

@@ -1,0 +1,119 @@
+/* How much stack the calls take. Each is made on a stack of its own that was painted before, on a
+ * register that makes it go deep, and what is painted over is held against what the header
+ * promises. */
+#define _XOPEN_SOURCE 700 /* for contexts */
+
+#include "batqemulo.h"
+
+#include <stdio.h>
+#include <string.h>
+#include <ucontext.h>
+
+enum { KIB = 1024, STACK = 1024 * KIB, PAINT = 0xA5, STATEMENTS = BATQEMULO_MAX_STATEMENTS };
+
+static uint8_t stack[STACK];
+static ucontext_t here, there;
+
+/* A chain: each statement objects to the one before it, so that lengths go up to the limit. */
+static uint8_t marks[STATEMENTS];
+static uint32_t objectors[STATEMENTS - 1], targets[STATEMENTS - 1];
+static char text[BATQEMULO_MAX_TEXT_BYTES + 1];
+static size_t text_len;
+
+static uint8_t bytes[BATQEMULO_MAX_LISTING_BYTES];
+static uint16_t lengths[STATEMENTS];
+static uint32_t line[STATEMENTS];
+static batqemulo_answer answer;
+
+static void make_chain(void) {
+    for (uint32_t x = 1; x < STATEMENTS; x++) {
+        objectors[x - 1] = x;
+        targets[x - 1] = x - 1;
+    }
+    for (uint32_t x = 1; x <= STATEMENTS; x++)
+        text_len += (size_t)sprintf(text + text_len, "S\t%u\tR\n", (unsigned)x);
+    for (uint32_t x = 1; x < STATEMENTS; x++)
+        text_len += (size_t)sprintf(text + text_len, "O\t%u\t%u\n", (unsigned)x + 1, (unsigned)x);
+}
+
+#define PAIRS marks, STATEMENTS, objectors, STATEMENTS - 1, targets, STATEMENTS - 1
+#define TEXT (const uint8_t *)text, text_len
+
+static void pairs_labels(void) {
+    answer = batqemulo_pairs_labels(PAIRS, bytes, sizeof bytes);
+}
+
+static void pairs_lengths(void) {
+    answer = batqemulo_pairs_lengths(PAIRS, lengths, STATEMENTS);
+}
+
+static void pairs_kinds(void) {
+    answer = batqemulo_pairs_kinds(PAIRS, bytes, sizeof bytes, lengths, STATEMENTS);
+}
+
+static void pairs_exercise(void) {
+    answer = batqemulo_pairs_exercise(PAIRS, 0, 6);
+}
+
+static void pairs_line(void) {
+    answer = batqemulo_pairs_line(PAIRS, 0, line, STATEMENTS);
+}
+
+static void text_labels(void) {
+    answer = batqemulo_text_labels(TEXT, bytes, sizeof bytes);
+}
+
+static void text_lengths(void) {
+    answer = batqemulo_text_lengths(TEXT, lengths, STATEMENTS);
+}
+
+static void text_exercise(void) {
+    answer = batqemulo_text_exercise(TEXT, 1, 6);
+}
+
+static void text_line(void) {
+    answer = batqemulo_text_line(TEXT, 1, line, STATEMENTS);
+}
+
+static void listing(void) {
+    answer = batqemulo_listing(TEXT, bytes, sizeof bytes);
+}
+
+/* Stacks grow downwards: what was used reaches from its end down to the last byte without paint. */
+static size_t used(void (*call)(void)) {
+    size_t clean = 0;
+    memset(stack, PAINT, sizeof stack);
+    getcontext(&there);
+    there.uc_stack.ss_sp = stack;
+    there.uc_stack.ss_size = sizeof stack;
+    there.uc_link = &here;
+    makecontext(&there, call, 0);
+    swapcontext(&here, &there);
+    while (clean < sizeof stack && stack[clean] == PAINT)
+        clean++;
+    return sizeof stack - clean;
+}
+
+int main(void) {
+    static const struct {
+        const char *name;
+        void (*call)(void);
+        size_t kib;
+    } calls[] = {
+        {"labels of lists", pairs_labels, 32},     {"lengths of lists", pairs_lengths, 32},
+        {"kinds of lists", pairs_kinds, 32},       {"exercise on lists", pairs_exercise, 32},
+        {"labels of a text", text_labels, 72},     {"lengths of a text", text_lengths, 72},
+        {"exercise on a text", text_exercise, 72}, {"listing", listing, 72},
+        {"line in lists", pairs_line, 256},        {"line in a text", text_line, 256}};
+    unsigned passed = 0, failed = 0;
+    make_chain();
+    for (size_t k = 0; k < sizeof calls / sizeof *calls; k++) {
+        size_t took = used(calls[k].call);
+        int ok = answer.refusal == 0 && took < calls[k].kib * KIB;
+        printf("%s %s: %u bytes of stack\n", ok ? "ok" : "FAILED", calls[k].name, (unsigned)took);
+        passed += (unsigned)ok;
+        failed += (unsigned)!ok;
+    }
+    printf("%u passed, %u failed\n", passed, failed);
+    return failed != 0;
+}

@@ -27,7 +27,7 @@ use Rattle.answer.proofs.Promises.{through, promised-unique, refused-exactly, E
 use Rattle.on_text.specs.Texts.{TextRefuses, StatementsGiven, TextStatements, TextLabels, TextLengths, ListingIn, ListingShort, TextListing, Places, byNumber, LineIn, LineShort, LineRefused, TextLine, ExerciseIn, TextExercise}
 
 -- a number stands at one place
-place-once : (R : Register) → Valid R → (number x x′ : ℕ) → Places R number x → Places R number x′ → x ≡ x′
+pub place-once : (R : Register) → Valid R → (number x x′ : ℕ) → Places R number x → Places R number x′ → x ≡ x′
 place-once R v number x x′ (h, e) (h′, e′) = go (decLt x x′) (decLt x′ x)
   where
     go : Dec (x < x′) → Dec (x′ < x) → x ≡ x′

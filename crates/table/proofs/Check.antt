@@ -240,3 +240,21 @@ pass-is (r ∷ rs) t = let (p, q) = both (passes r) (pass rs) t in (passes-is r 
 pub table-holds : Every Says table
 unfolding table ascii extend fields value add guess registerOf same issued numbered differ known distinct ordered accepted verdictAt kindAt listingOf kept added finishing passes pass any all bookOf standsWithin fallsWithin verdict verdictBy decimal decimalIn bytes placeOf numbersRow statementRow statementRows objectionRow objectionRows
 table-holds = pass-is table tt
+
+-- Two of the table's registers by name, for those who need the register itself: the lone read statement, and the chain of four.
+unfoldable pub lone : Register
+lone = record { statements = record { number = 1; mark = Read } ∷ []; objections = [] }
+
+unfoldable pub chain : Register
+chain = record {
+  statements = record { number = 1; mark = Unread } ∷ record { number = 2; mark = Read } ∷ record { number = 3; mark = Read } ∷ record { number = 4; mark = Read } ∷ [];
+  objections = record { objector = 4; target = 3 } ∷ record { objector = 3; target = 2 } ∷ record { objector = 2; target = 1 } ∷ [];
+}
+
+pub lone-accepted : Accepts (ascii "S\t1\tR\n") lone
+unfolding lone ascii same issued numbered differ known distinct ordered accepted any all decimal decimalIn bytes
+lone-accepted = accepted-is (ascii "S\t1\tR\n") lone tt
+
+pub chain-accepted : Accepts (ascii "S\t1\tU\nS\t2\tR\nS\t3\tR\nS\t4\tR\nO\t4\t3\nO\t3\t2\nO\t2\t1\n") chain
+unfolding chain ascii same issued numbered differ known distinct ordered accepted any all decimal decimalIn bytes
+chain-accepted = accepted-is (ascii "S\t1\tU\nS\t2\tR\nS\t3\tR\nS\t4\tR\nO\t4\t3\nO\t3\t2\nO\t2\t1\n") chain tt

@@ -2,8 +2,9 @@
 use mathlib.Core.List.{List}
 use mathlib.Core.Logic.{_⊎_}
 use mathlib.Core.Path.{_≡_}
-use Prim.Native.Nat.{ℕ, _≤_, _<_}
+use Prim.Native.Nat.{ℕ, _+_, _≤_, _<_}
 use lib.ListN.{length, getD, take, set}
+use Rattle.index.specs.Indexed.{Indexed}
 use Rattle.line.specs.Lines.{markNumber}
 use Rattle.line.specs.declared.StatementLine.{StatementLine}
 use Rattle.line.specs.declared.ObjectionLine.{ObjectionLine}
@@ -58,6 +59,11 @@ StatementTaken nums marks n m st k nums′ marks′ Kept =
     (m ≡ 0) × (n < 1024) × Absent nums n (st .number) × (nums′ ≡ set nums n (st .number)) × (marks′ ≡ set marks n (markNumber (st .mark)))
 StatementTaken nums marks n m st k nums′ marks′ (AtFault r) =
     ((0 < m) × (r ≡ Late k)) ⊎ (((m ≡ 0) × (1024 ≤ n) × (r ≡ Statements k)) ⊎ ((m ≡ 0) × (n < 1024) × ((i : ℕ) × At nums n (st .number) i) × (r ≡ Issued k)))
+
+-- the index is that of the statements kept
+abbrev pub InStep : (nums : List ℕ) (n : ℕ) (head links : List ℕ) → Taken → Type 0
+InStep nums n head links Kept = Indexed nums (n + 1) head links
+InStep nums n head links (AtFault r) = Indexed nums n head links
 
 -- the places y and x are those of an objection's numbers
 pub record Ends (nums : List ℕ) (n : ℕ) (o : ObjectionLine) (y x : ℕ) : Type 0 where

@@ -1,5 +1,6 @@
--- `read` settles rows 1 and 2, and leaves the lines to `read_lines`.
+-- `read` settles rows 1 and 2, and leaves the lines to `read_lines`, with an empty index.
 use native.Mathlib.Omega.{arith}
+use Rattle.index.proofs.Index.{indexed-none}
 use borrow.Author.Needs.{needs}
 use Rattle.text.proofs.read.Statement.{statement}
 use Rattle.text.proofs.read.Tie as tie
@@ -10,8 +11,14 @@ returns c = search needs
 ended-requires : tie.Need-ended-requires
 ended-requires c κs = search needs
 
+slice-aggregate-read-lines : tie.Need-slice-aggregate-read-lines
+slice-aggregate-read-lines c = search needs
+
+slice-aggregate-read-lines-2 : tie.Need-slice-aggregate-read-lines-2
+slice-aggregate-read-lines-2 c = search needs
+
 read-lines-requires : tie.Need-read-lines-requires
-read-lines-requires c κs = ((omega arith, c .before .before .before .before .before .ended .ensures .0 (c .before .before .before .before .if2 .taken)), c .before .before .before .before .before .before .before .before .before .before .before .before .pre)
+read-lines-requires c κs = ((omega arith, c .before .before .before .before .before .before .before .ended .ensures .0 (c .before .before .before .before .before .before .if2 .taken)), (c .before .before .before .before .before .before .before .before .before .before .before .before .before .before .pre, indexed-none _))
 
 same-length : tie.Need-same-length
 same-length c = search needs
@@ -37,6 +44,8 @@ read-spec =
     (tie.spec
     returns
     ended-requires
+    slice-aggregate-read-lines
+    slice-aggregate-read-lines-2
     read-lines-requires
     same-length
     same-length-2

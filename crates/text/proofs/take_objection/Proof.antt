@@ -9,17 +9,17 @@ use Rattle.text.proofs.take_objection.Tie as tie
 returns : tie.Need-returns
 returns c = inl (c .if1 .taken, refl)
 
-find-requires : tie.Need-find-requires
-find-requires c κs = search needs
+look-up-requires : tie.Need-look-up-requires
+look-up-requires c κs = c .before .before .before .before .before .before .pre .1
 
 returns-2 : tie.Need-returns-2
-returns-2 c = inr (inl (omega arith, inl (λ i l. c .before .find .ensures .1 i (omega arith)), refl))
+returns-2 c = inr (inl (omega arith, inl (λ i l. c .before .look-up .ensures .1 i (omega arith)), refl))
 
-find-requires-2 : tie.Need-find-requires-2
-find-requires-2 c κs = search needs
+look-up-requires-2 : tie.Need-look-up-requires-2
+look-up-requires-2 c κs = c .before .before .before .before .before .before .before .before .pre .1
 
 returns-3 : tie.Need-returns-3
-returns-3 c = inr (inl (omega arith, inr (λ i l. c .before .find2 .ensures .1 i (omega arith)), refl))
+returns-3 c = inr (inl (omega arith, inr (λ i l. c .before .look-up2 .ensures .1 i (omega arith)), refl))
 
 cast-pair-at : tie.Need-cast-pair-at
 cast-pair-at c = search needs
@@ -37,7 +37,7 @@ same-length-2 : tie.Need-same-length-2
 same-length-2 c = search needs
 
 returns-4 : tie.Need-returns-4
-returns-4 c = inr (inr (omega arith, (c .before .before .before .before .before .before .before .find .result, c .before .before .before .before .before .find2 .result, record { objector = (c .before .before .before .before .before .before .if2 .left, c .before .before .before .before .before .before .before .find .ensures .2 (c .before .before .before .before .before .before .if2 .left)); objector-first = c .before .before .before .before .before .before .before .find .ensures .1; target = (c .before .before .before .before .if3 .left, c .before .before .before .before .before .find2 .ensures .2 (c .before .before .before .before .if3 .left)); target-first = c .before .before .before .before .before .find2 .ensures .1 }, (c .before .pair-at .result, c .if4 .taken, c .before .pair-at .ensures .2 (c .if4 .taken) .0, c .before .pair-at .ensures .2 (c .if4 .taken) .1)), refl))
+returns-4 c = inr (inr (omega arith, (c .before .before .before .before .before .before .before .look-up .result, c .before .before .before .before .before .look-up2 .result, record { objector = (c .before .before .before .before .before .before .if2 .left, c .before .before .before .before .before .before .before .look-up .ensures .2 (c .before .before .before .before .before .before .if2 .left)); objector-first = c .before .before .before .before .before .before .before .look-up .ensures .1; target = (c .before .before .before .before .if3 .left, c .before .before .before .before .before .look-up2 .ensures .2 (c .before .before .before .before .if3 .left)); target-first = c .before .before .before .before .before .look-up2 .ensures .1 }, (c .before .pair-at .result, c .if4 .taken, c .before .pair-at .ensures .2 (c .if4 .taken) .0, c .before .pair-at .ensures .2 (c .if4 .taken) .1)), refl))
 
 cast-objectors : tie.Need-cast-objectors
 cast-objectors c = search needs
@@ -64,16 +64,16 @@ same-length-4 : tie.Need-same-length-4
 same-length-4 c = search needs
 
 returns-5 : tie.Need-returns-5
-returns-5 c = (omega arith, c .before .before .before .before .before .before .before .find .result, c .before .before .before .before .before .find2 .result, record { objector = (c .before .before .before .before .before .before .if2 .left, c .before .before .before .before .before .before .before .find .ensures .2 (c .before .before .before .before .before .before .if2 .left)); objector-first = c .before .before .before .before .before .before .before .find .ensures .1; target = (c .before .before .before .before .if3 .left, c .before .before .before .before .before .find2 .ensures .2 (c .before .before .before .before .if3 .left)); target-first = c .before .before .before .before .before .find2 .ensures .1 }, (λ j l a b. c .before .pair-at .ensures .1 j (omega arith) (a, b)), refl, refl)
+returns-5 c = (omega arith, c .before .before .before .before .before .before .before .look-up .result, c .before .before .before .before .before .look-up2 .result, record { objector = (c .before .before .before .before .before .before .if2 .left, c .before .before .before .before .before .before .before .look-up .ensures .2 (c .before .before .before .before .before .before .if2 .left)); objector-first = c .before .before .before .before .before .before .before .look-up .ensures .1; target = (c .before .before .before .before .if3 .left, c .before .before .before .before .before .look-up2 .ensures .2 (c .before .before .before .before .if3 .left)); target-first = c .before .before .before .before .before .look-up2 .ensures .1 }, (λ j l a b. c .before .pair-at .ensures .1 j (omega arith) (a, b)), refl, refl)
 
 pub take-objection-spec : {M : Type 1} → statement M
 take-objection-spec =
     tie.close
     (tie.spec
     returns
-    find-requires
+    look-up-requires
     returns-2
-    find-requires-2
+    look-up-requires-2
     returns-3
     cast-pair-at
     cast-pair-at-2

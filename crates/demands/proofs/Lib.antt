@@ -1,0 +1,3 @@
+pub mod Says
+pub mod Demands
+pub mod Idle

@@ -1,95 +1,120 @@
--- Laws of the index: an empty one, a walk along one of its chains, and one number more.
-use mathlib.Core.List.{List, [], _∷_, _++_, map, map-append}
+-- Laws of the index: an empty one, the way down to a number, and one number more.
+use mathlib.Core.List.{List}
 use mathlib.Core.Logic.{_⊎_, inl, inr}
-use mathlib.Core.Path.{_≡_, sym, ap, _∙_, subst}
-use Prim.Native.Nat.{ℕ, _+_, _-_, _≤_, _<_}
-use native.Mathlib.Numerals.{add-one}
+use mathlib.Core.Path.{_≡_, refl, sym, ap, _∙_, subst}
+use Prim.Native.Nat.{ℕ, zero, suc, _+_, _*_, _-_, _/_, _≤_, _<_}
 use native.Mathlib.Omega.{arith}
-use lib.ListN.{length, getD, take, set, replicate, length-replicate, length-map, length-set, List·getD-map, List·getD-append}
-use lib.Seq.{length-take-le, getD-take, take-suc-set, getD-append-seam}
+use lib.ListN.{length, getD, set, replicate, length-replicate, length-set}
 use Rattle.game.specs.Find.{Found}
-use Rattle.chain.specs.Chained.{Chained, Walk}
-use Rattle.chain.proofs.Links.{stored, all-zero, chained-none, chained-more}
-use Rattle.chain.proofs.Walks.{walk-begins, walk-lower, walk-more, walk-ends}
-use Rattle.index.specs.Indexed.{bucket, buckets, Indexed, New}
+use Rattle.chain.proofs.Links.{stored, all-zero}
+use Rattle.index.specs.Indexed.{slot, Leads, Indexed, New, Free}
 
-pub bucket-low : (number : ℕ) → bucket number < 2039
-unfolding bucket
-bucket-low number = omega arith
+pub slot-low : (rest node : ℕ) → (4 * node ≤ slot rest node) × (slot rest node < 4 * node + 4)
+unfolding slot
+slot-low rest node = (omega arith, omega arith)
 
--- rooms of zeros are the index of no number
-pub indexed-none : (numbers : List ℕ) → Indexed numbers 0 (replicate 2039 0) (replicate 1024 0)
+-- a room of zeros is the index of no number
+pub indexed-none : (numbers : List ℕ) → Indexed numbers 0 (replicate 4100 0)
 indexed-none numbers = record {
   few = omega arith;
   within = omega arith;
-  head-room = length-replicate {A = ℕ} 2039 0;
-  next-room = length-replicate {A = ℕ} 1024 0;
+  links-room = length-replicate {A = ℕ} 4100 0;
   once = λ i j h l. absurd (omega arith);
-  chained = chained-none (buckets numbers 0) (replicate 2039 0) (replicate 1024 0) (all-zero 2039);
+  low = λ s. omega (arith, all-zero 4100 s);
+  later = λ s h. absurd (omega (arith, all-zero 4100 s));
+  entered = λ x h. absurd (omega arith);
 }
 
--- the buckets are as many as the numbers, and each is its number's
-counted : (numbers : List ℕ) (n : ℕ) → n ≤ length numbers → length (buckets numbers n) ≡ n
-counted numbers n h = length-map (take n numbers) bucket ∙ length-take-le n numbers h
+-- how much is left of a walk that ends at 0 and else goes to later nodes
+abbrev pub left : ℕ → ℕ → ℕ
+left n zero = 0
+left n (suc q) = suc (n - q)
 
-bucket-at : (numbers : List ℕ) (n x : ℕ) → x < n → getD (buckets numbers n) x 0 ≡ bucket (getD numbers x 0)
-unfolding bucket
-bucket-at numbers n x h = List·getD-map bucket (take n numbers) x 0 ∙ ap bucket (getD-take n numbers x 0 h)
+-- The number, if it is there, is at the node or below it.
+abbrev pub Seeks : (numbers : List ℕ) (n : ℕ) (links : List ℕ) (number rest node : ℕ) → Type 0
+Seeks numbers n links number rest node =
+    (node ≤ n) × ((x : ℕ) → x < n → getD numbers x 0 ≡ number → (0 < node) × ((k : ℕ) × (rest′ : ℕ) × Leads links k (rest / 4) node rest′ (x + 1)))
 
--- A walk along the chain of a number has come to the link: no place that it has seen has the number.
-abbrev pub Seeks : (numbers : List ℕ) (n number link : ℕ) → Type 0
-Seeks numbers n number link = Walk (buckets numbers n) (bucket number) (λ x. getD numbers x 0 ≡ number → ⊥) link
+-- one step down
+down : (links : List ℕ) (k rest node rest′ node′ : ℕ) → (node ≡ node′ → ⊥) → Leads links k rest node rest′ node′ → (0 < getD links (slot rest node) 0) × ((j : ℕ) × (r : ℕ) × Leads links j (rest / 4) (getD links (slot rest node) 0) r node′)
+unfolding Leads
+down links zero rest node rest′ node′ f (a, b) = absurd (f b)
+down links (suc k) rest node rest′ node′ f (a, b) = (a, (k, rest′, b))
 
-module _ (numbers : List ℕ) (n : ℕ) (head next : List ℕ) (ix : Indexed numbers n head next) (number : ℕ) where
-  all : Chained (buckets numbers n) (length (buckets numbers n)) head next
-  all = subst (λ k. Chained (buckets numbers n) k head next) (sym (counted numbers n (ix .within))) (ix .chained)
+module _ (numbers : List ℕ) (n : ℕ) (links : List ℕ) (ix : Indexed numbers n links) where
+  -- the link below a node leads to a later one
+  pub link-later : (rest node next : ℕ) → next ≡ getD links (slot rest node) 0 → (next ≡ 0 → ⊥) → node < next
+  link-later rest node next e z = omega (arith, ix .later (slot rest node) (omega arith), slot-low rest node)
 
-  pub seek-begins : (b link : ℕ) → b ≡ bucket number → link ≡ getD head b 0 → Seeks numbers n number link
-  seek-begins b link h e = walk-begins (buckets numbers n) head next all (bucket number) (λ x. getD numbers x 0 ≡ number → ⊥) link (e ∙ ap (λ k. getD head k 0) h)
+  pub link-low : (rest node next : ℕ) → next ≡ getD links (slot rest node) 0 → next ≤ n
+  link-low rest node next e = omega (arith, ix .low (slot rest node))
 
-  pub seek-place : (link : ℕ) → Seeks numbers n number link → (link ≡ 0 → ⊥) → link - 1 < n
-  seek-place link w z = omega (arith, w .low, counted numbers n (ix .within))
+  pub left-less : (rest node next : ℕ) → node ≤ n → (node ≡ 0 → ⊥) → next ≡ getD links (slot rest node) 0 → left n next < left n node
+  left-less rest node next h z e = go node next h z (link-low rest node next e) (link-later rest node next e)
+    where
+      go : (a b : ℕ) → a ≤ n → (a ≡ 0 → ⊥) → b ≤ n → ((b ≡ 0 → ⊥) → a < b) → left n b < left n a
+      go zero b h z l f = absurd (z refl)
+      go (suc a) zero h z l f = omega arith
+      go (suc a) (suc b) h z l f = omega (arith, f (λ e. omega arith))
 
-  pub seek-lower : (link d : ℕ) → Seeks numbers n number link → (link ≡ 0 → ⊥) → d ≡ getD next (link - 1) 0 → d < link
-  seek-lower link d w z e = walk-lower (buckets numbers n) head next all (bucket number) (λ x. getD numbers x 0 ≡ number → ⊥) link w z d e
+  module _ (number : ℕ) where
+    pub seek-begins : (node : ℕ) → node ≡ getD links (slot number 0) 0 → Seeks numbers n links number number node
+    seek-begins node e = (link-low number 0 node e, λ x h q. rw e (go x h q (ix .entered x h)))
+      where
+        go : (x : ℕ) → x < n → getD numbers x 0 ≡ number → ((k : ℕ) × (rest : ℕ) × Leads links k (getD numbers x 0) 0 rest (x + 1)) → (0 < getD links (slot number 0) 0) × ((k : ℕ) × (rest′ : ℕ) × Leads links k (number / 4) (getD links (slot number 0) 0) rest′ (x + 1))
+        go x h q (k, rest, l) = down links k number 0 rest (x + 1) (λ z. omega arith) (subst (λ v. Leads links k v 0 rest (x + 1)) q l)
 
-  pub seek-more : (link d : ℕ) → Seeks numbers n number link → (link ≡ 0 → ⊥) → d ≡ getD next (link - 1) 0 → (getD numbers (link - 1) 0 ≡ number → ⊥) → Seeks numbers n number d
-  seek-more link d w z e f = walk-more (buckets numbers n) head next all (bucket number) (λ x. getD numbers x 0 ≡ number → ⊥) link w z d e f
+    pub seek-more : (rest node next : ℕ) → Seeks numbers n links number rest node → (node ≡ 0 → ⊥) → (getD numbers (node - 1) 0 ≡ number → ⊥) → next ≡ getD links (slot (rest / 4) node) 0 → Seeks numbers n links number (rest / 4) next
+    seek-more rest node next w z f e = (link-low (rest / 4) node next e, λ x h q. rw e (go x q (w .1 x h q .1)))
+      where
+        other : (x : ℕ) → getD numbers x 0 ≡ number → node ≡ x + 1 → ⊥
+        other x q p = let d : node - 1 ≡ x = omega arith in f (ap (λ i. getD numbers i 0) d ∙ q)
 
-  -- a number found stands there alone
-  pub seek-found : (x : ℕ) → x < n → getD numbers x 0 ≡ number → Found (λ i. getD numbers i 0 ≡ number) n x
-  seek-found x h e = (omega arith, (λ j l q. ix .once j x l h (q ∙ sym e)), λ _. e)
+        go : (x : ℕ) → getD numbers x 0 ≡ number → ((k : ℕ) × (rest′ : ℕ) × Leads links k (rest / 4) node rest′ (x + 1)) → (0 < getD links (slot (rest / 4) node) 0) × ((k : ℕ) × (rest′ : ℕ) × Leads links k (rest / 4 / 4) (getD links (slot (rest / 4) node) 0) rest′ (x + 1))
+        go x q (k, rest′, l) = down links k (rest / 4) node rest′ (x + 1) (other x q) l
 
-  -- at the end of the chain it is nowhere
-  pub seek-ends : (link : ℕ) → Seeks numbers n number link → link ≡ 0 → Found (λ i. getD numbers i 0 ≡ number) n n
-  seek-ends link w z = (omega arith, (λ j l q. walk-ends (buckets numbers n) head next all (bucket number) (λ x. getD numbers x 0 ≡ number → ⊥) link w z j (omega (arith, counted numbers n (ix .within))) (bucket-at numbers n j l ∙ ap bucket q) q), λ l. absurd (omega arith))
+    -- a number found stands there alone
+    pub seek-found : (x : ℕ) → x < n → getD numbers x 0 ≡ number → Found (λ i. getD numbers i 0 ≡ number) n x
+    seek-found x h e = (omega arith, (λ j l q. ix .once j x l h (q ∙ sym e)), λ _. e)
 
--- One number more.
-buckets-more : (numbers : List ℕ) (n number : ℕ) → n < length numbers → buckets (set numbers n number) (n + 1) ≡ buckets numbers n ++ (bucket number ∷ [])
-buckets-more numbers n number h =
-    let e : take (n + 1) (set numbers n number) ≡ take n numbers ++ (number ∷ []) = rw add-one (take-suc-set numbers n number h) in
-    ap (map bucket) e ∙ map-append bucket (take n numbers) (number ∷ [])
+    -- where no way goes on it is nowhere
+    pub seek-ends : (rest node : ℕ) → Seeks numbers n links number rest node → node ≡ 0 → Found (λ i. getD numbers i 0 ≡ number) n n
+    seek-ends rest node w z = (omega arith, (λ j l q. omega (arith, w .1 j l q .0)), λ l. absurd (omega arith))
 
--- what is chained stays so if the list goes on
-goes-on : (places : List ℕ) (b : ℕ) (head next : List ℕ) → Chained places (length places) head next → Chained (places ++ (b ∷ [])) (length places) head next
-goes-on places b head next ch = record {
-  head-low = ch .head-low;
-  head-of = λ x e p. old e (omega (arith, ch .head-low x)) ∙ ch .head-of x e p;
-  head-last = λ x e h p. ch .head-last x e h (sym (old e h) ∙ p);
-  next-low = ch .next-low;
-  next-of = λ d e h p. old e (omega (arith, ch .next-low d h)) ∙ ch .next-of d e h p ∙ sym (old d h);
-  next-last = λ d e h l p. ch .next-last d e h l (sym (old e (omega arith)) ∙ p ∙ old d h);
-}
+-- one step more
+onward : (links : List ℕ) (k rest node rest′ node′ : ℕ) → Leads links k rest node rest′ node′ → 0 < getD links (slot rest′ node′) 0 → Leads links (suc k) rest node (rest′ / 4) (getD links (slot rest′ node′) 0)
+unfolding Leads
+onward links zero rest node rest′ node′ (a, b) h = rw (a, b) (h, (refl, refl))
+onward links (suc k) rest node rest′ node′ (a, b) h = (a, onward links k (rest / 4) (getD links (slot rest node) 0) rest′ node′ b h)
+
+-- The walk to a free slot.
+abbrev pub Walks : (n : ℕ) (links : List ℕ) (number rest node next : ℕ) → Type 0
+Walks n links number rest node next = (node ≤ n) × (next ≡ getD links (slot rest node) 0) × ((k : ℕ) × Leads links k number 0 rest node)
+
+pub walk-begins : (n : ℕ) (links : List ℕ) (number next : ℕ) → next ≡ getD links (slot number 0) 0 → Walks n links number number 0 next
+unfolding Leads
+walk-begins n links number next e = (omega arith, e, (0, (refl, refl)))
+
+pub walk-more : (numbers : List ℕ) (n : ℕ) (links : List ℕ) (ix : Indexed numbers n links) (number rest node next after : ℕ) → Walks n links number rest node next → (next ≡ 0 → ⊥) → after ≡ getD links (slot (rest / 4) next) 0 → Walks n links number (rest / 4) next after
+walk-more numbers n links ix number rest node next after (h, e, (k, l)) z q =
+    (link-low numbers n links ix rest node next e, q, (suc k, rw e (onward links k number 0 rest node l (omega arith))))
+
+pub walk-ends : (n : ℕ) (links : List ℕ) (number rest node next s : ℕ) → Walks n links number rest node next → next ≡ 0 → s ≡ slot rest node → Free n links number s
+walk-ends n links number rest node next s (h, e, (k, l)) z q = record { steps = k; rest = rest; node = node; node-low = h; leads = l; is-slot = q; is-free = ap (λ i. getD links i 0) q ∙ sym e ∙ z }
+
+-- a link put into a free slot changes no way
+kept : (links : List ℕ) (s v : ℕ) → s < length links → getD links s 0 ≡ 0 → (k rest node rest′ node′ : ℕ) → Leads links k rest node rest′ node′ → Leads (set links s v) k rest node rest′ node′
+unfolding Leads
+kept links s v h z zero rest node rest′ node′ l = l
+kept links s v h z (suc k) rest node rest′ node′ (a, b) = go (stored links s v h (slot rest node)) (kept links s v h z k (rest / 4) (getD links (slot rest node) 0) rest′ node′ b)
   where
-    old : (e : ℕ) → e < length places → getD (places ++ (b ∷ [])) e 0 ≡ getD places e 0
-    old e h = List·getD-append places (b ∷ []) 0 e h
+    go : ((slot rest node ≡ s) × (getD (set links s v) (slot rest node) 0 ≡ v)) ⊎ ((slot rest node ≡ s → ⊥) × (getD (set links s v) (slot rest node) 0 ≡ getD links (slot rest node) 0)) → Leads (set links s v) k (rest / 4) (getD links (slot rest node) 0) rest′ node′ → (0 < getD (set links s v) (slot rest node) 0) × Leads (set links s v) k (rest / 4) (getD (set links s v) (slot rest node) 0) rest′ node′
+    go (inl (e, q)) w = let same : getD links (slot rest node) 0 ≡ 0 = ap (λ i. getD links i 0) e ∙ z in absurd (omega arith)
+    go (inr (e, q)) w = rw q (a, w)
 
-module _ (numbers : List ℕ) (n : ℕ) (head next : List ℕ) (number : ℕ) (ix : Indexed numbers n head next) (new : New numbers n number) where
-  chained-on : Chained (buckets numbers n ++ (bucket number ∷ [])) (n + 1) (set head (bucket number) (n + 1)) (set next n (getD head (bucket number) 0))
-  chained-on =
-      let e : length (buckets numbers n) ≡ n = counted numbers n (ix .within) in
-      let ch : Chained (buckets numbers n ++ (bucket number ∷ [])) n head next = subst (λ k. Chained (buckets numbers n ++ (bucket number ∷ [])) k head next) e (goes-on (buckets numbers n) (bucket number) head next (all numbers n head next ix number)) in
-      chained-more (buckets numbers n ++ (bucket number ∷ [])) head next n (bucket number) ch (subst (λ k. getD (buckets numbers n ++ (bucket number ∷ [])) k 0 ≡ bucket number) e (getD-append-seam (buckets numbers n) (bucket number) [] 0)) (omega (arith, bucket-low number, ix .head-room)) (omega (arith, new .fits, ix .next-room))
+module _ (numbers : List ℕ) (n : ℕ) (links : List ℕ) (number s : ℕ) (ix : Indexed numbers n links) (new : New numbers n number) (free : Free n links number s) where
+  pub slot-within : s < length links
+  slot-within = omega (arith, free .is-slot, slot-low (free .rest) (free .node), free .node-low, new .fits, ix .links-room)
 
   once-more : (i j : ℕ) → i < j → j < n + 1 → getD (set numbers n number) i 0 ≡ getD (set numbers n number) j 0 → ⊥
   once-more i j h l e = go (stored numbers n number (new .room) i) (stored numbers n number (new .room) j)
@@ -99,12 +124,42 @@ module _ (numbers : List ℕ) (n : ℕ) (head next : List ℕ) (number : ℕ) (i
       go (inr (a, b)) (inl (c, d)) = new .absent i (omega arith) (sym b ∙ e ∙ d)
       go (inr (a, b)) (inr (c, d)) = ix .once i j h (omega arith) (sym b ∙ e ∙ d)
 
-  pub indexed-more : Indexed (set numbers n number) (n + 1) (set head (bucket number) (n + 1)) (set next n (getD head (bucket number) 0))
+  -- the link put in leads from an earlier node to a later one, as the others do
+  links-more : (t : ℕ) → (getD (set links s (n + 1)) t 0 ≤ n + 1) × (0 < getD (set links s (n + 1)) t 0 → t < 4 * getD (set links s (n + 1)) t 0)
+  links-more t = go (stored links s (n + 1) slot-within t)
+    where
+      go : ((t ≡ s) × (getD (set links s (n + 1)) t 0 ≡ n + 1)) ⊎ ((t ≡ s → ⊥) × (getD (set links s (n + 1)) t 0 ≡ getD links t 0)) → (getD (set links s (n + 1)) t 0 ≤ n + 1) × (0 < getD (set links s (n + 1)) t 0 → t < 4 * getD (set links s (n + 1)) t 0)
+      go (inl (a, b)) = (omega arith, λ _. omega (arith, free .is-slot, slot-low (free .rest) (free .node), free .node-low))
+      go (inr (a, b)) = (omega (arith, ix .low t), λ h. omega (arith, ix .later t (omega arith)))
+
+  -- the new number leads to its place
+  new-leads : (k : ℕ) × (rest : ℕ) × Leads (set links s (n + 1)) k number 0 rest (n + 1)
+  new-leads = go (stored links s (n + 1) slot-within s)
+    where
+      go : ((s ≡ s) × (getD (set links s (n + 1)) s 0 ≡ n + 1)) ⊎ ((s ≡ s → ⊥) × (getD (set links s (n + 1)) s 0 ≡ getD links s 0)) → (k : ℕ) × (rest : ℕ) × Leads (set links s (n + 1)) k number 0 rest (n + 1)
+      go (inl (a, b)) =
+          let here : getD (set links s (n + 1)) (slot (free .rest) (free .node)) 0 ≡ n + 1 = ap (λ i. getD (set links s (n + 1)) i 0) (sym (free .is-slot)) ∙ b in
+          let way = onward (set links s (n + 1)) (free .steps) number 0 (free .rest) (free .node) (kept links s (n + 1) slot-within (free .is-free) (free .steps) number 0 (free .rest) (free .node) (free .leads)) (omega arith) in
+          (suc (free .steps), free .rest / 4, subst (λ v. Leads (set links s (n + 1)) (suc (free .steps)) number 0 (free .rest / 4) v) here way)
+      go (inr (a, b)) = absurd (a refl)
+
+  entered-more : (x : ℕ) → x < n + 1 → (k : ℕ) × (rest : ℕ) × Leads (set links s (n + 1)) k (getD (set numbers n number) x 0) 0 rest (x + 1)
+  entered-more x h = go (stored numbers n number (new .room) x)
+    where
+      old : (k : ℕ) × (rest : ℕ) × Leads links k (getD numbers x 0) 0 rest (x + 1) → (k : ℕ) × (rest : ℕ) × Leads (set links s (n + 1)) k (getD numbers x 0) 0 rest (x + 1)
+      old (k, rest, l) = (k, rest, kept links s (n + 1) slot-within (free .is-free) k (getD numbers x 0) 0 rest (x + 1) l)
+
+      go : ((x ≡ n) × (getD (set numbers n number) x 0 ≡ number)) ⊎ ((x ≡ n → ⊥) × (getD (set numbers n number) x 0 ≡ getD numbers x 0)) → (k : ℕ) × (rest : ℕ) × Leads (set links s (n + 1)) k (getD (set numbers n number) x 0) 0 rest (x + 1)
+      go (inl (a, b)) = rw b (subst (λ y. (k : ℕ) × (rest : ℕ) × Leads (set links s (n + 1)) k number 0 rest (y + 1)) (sym a) new-leads)
+      go (inr (a, b)) = rw b (old (ix .entered x (omega arith)))
+
+  pub indexed-more : Indexed (set numbers n number) (n + 1) (set links s (n + 1))
   indexed-more = record {
     few = omega (arith, new .fits);
     within = omega (arith, new .room, length-set numbers n number);
-    head-room = length-set head (bucket number) (n + 1) ∙ ix .head-room;
-    next-room = length-set next n (getD head (bucket number) 0) ∙ ix .next-room;
+    links-room = length-set links s (n + 1) ∙ ix .links-room;
     once = once-more;
-    chained = subst (λ places. Chained places (n + 1) (set head (bucket number) (n + 1)) (set next n (getD head (bucket number) 0))) (sym (buckets-more numbers n number (new .room))) chained-on;
+    low = λ t. links-more t .0;
+    later = λ t. links-more t .1;
+    entered = entered-more;
   }

@@ -1,42 +1,69 @@
-// The place of a number, found without a scan: the statements are chained by the bucket of their number, and who looks a
-// number up walks along one chain. What the numbers stand for is left to the caller.
+// The place of a number, found without a scan: the places of the numbers entered stand in a tree, and who looks a number up
+// goes down by its digits in base 4. A number of 8 decimal digits has at most 14 of them, and so many steps are the most;
+// no contract says so. What the numbers stand for is left to the caller.
 use chain::wide;
 ghost use mathlib.Core.Path.{_≡_};
-ghost use Prim.Native.Nat.{_+_};
-ghost use lib.ListN.{getD, set};
+ghost use Prim.Native.Nat.{_+_, _≤_};
+ghost use lib.ListN.{length, getD, set};
 ghost use Rattle.game.specs.Find.{Found};
-ghost use Rattle.index.specs.Indexed.{bucket, Indexed, New};
+ghost use Rattle.index.specs.Indexed.{slot, Indexed, New, Free};
 
-fn bucket_of(number: u32) -> usize
-    ensures { λ r. ⌜ r ≡ bucket number ⌝ }
+// The slot of a node for the last digit of what is left.
+fn slot_of(rest: u32, node: usize) -> usize
+    requires { ⌜ node ≤ 1024 ⌝ }
+    ensures { λ r. ⌜ r ≡ slot rest node ⌝ }
 {
-    (number % 2039) as usize
+    4 * node + (rest % 4) as usize
+}
+
+// The node to which the last digit of what is left leads, or 0.
+fn below(links: &[u16], rest: u32, node: usize) -> usize
+    requires { ⌜ (length (now links) ≡ 4100) × (node ≤ 1024) ⌝ }
+    ensures { λ r. ⌜ r ≡ getD (now (links .entry)) (slot rest node) 0 ⌝ }
+{
+    let s = slot_of(rest, node);
+    wide(links[s])
 }
 
 // The place of a number among the first n, or n.
-pub fn look_up(numbers: &[u32], n: usize, head: &[u16], next: &[u16], number: u32) -> usize
-    requires { ⌜ Indexed (now numbers) n (now head) (now next) ⌝ }
+pub fn look_up(numbers: &[u32], n: usize, links: &[u16], number: u32) -> usize
+    requires { ⌜ Indexed (now numbers) n (now links) ⌝ }
     ensures { λ r. ⌜ Found (λ x. getD (now (numbers .entry)) x 0 ≡ number) n r ⌝ }
 {
-    let b = bucket_of(number);
-    let mut link = wide(head[b]);
-    while link != 0 {
-        let x = link - 1;
-        if numbers[x] == number {
-            return x;
+    let mut rest = number;
+    let mut node = below(links, rest, 0);
+    while node != 0 {
+        if numbers[node - 1] == number {
+            return node - 1;
         }
-        link = wide(next[x]);
+        rest = rest / 4;
+        node = below(links, rest, node);
     }
     n
 }
 
-// Enters a new number at place n.
-pub fn enter(numbers: &mut [u32], n: usize, head: &mut [u16], next: &mut [u16], number: u32)
-    requires { ⌜ Indexed (now numbers) n (now head) (now next) × New (now numbers) n number ⌝ }
-    ensures { λ _. ⌜ (now (numbers .exit) ≡ set (now (numbers .entry)) n number) × Indexed (now (numbers .exit)) (n + 1) (now (head .exit)) (now (next .exit)) ⌝ }
+// The free slot to which the digits of a number lead.
+fn free_slot(numbers: &[u32], n: usize, links: &[u16], number: u32) -> usize
+    requires { ⌜ Indexed (now numbers) n (now links) ⌝ }
+    ensures { λ r. ⌜ Free n (now (links .entry)) number r ⌝ }
 {
-    let b = bucket_of(number);
+    let mut rest = number;
+    let mut node = 0;
+    let mut next = below(links, rest, node);
+    while next != 0 {
+        node = next;
+        rest = rest / 4;
+        next = below(links, rest, node);
+    }
+    slot_of(rest, node)
+}
+
+// Enters a new number at place n.
+pub fn enter(numbers: &mut [u32], n: usize, links: &mut [u16], number: u32)
+    requires { ⌜ Indexed (now numbers) n (now links) × New (now numbers) n number ⌝ }
+    ensures { λ _. ⌜ (now (numbers .exit) ≡ set (now (numbers .entry)) n number) × Indexed (now (numbers .exit)) (n + 1) (now (links .exit)) ⌝ }
+{
+    let s = free_slot(numbers, n, links, number);
     numbers[n] = number;
-    next[n] = head[b];
-    head[b] = (n + 1) as u16;
+    links[s] = (n + 1) as u16;
 }

@@ -61,9 +61,9 @@ StatementTaken nums marks n m st k nums′ marks′ (AtFault r) =
     ((0 < m) × (r ≡ Late k)) ⊎ (((m ≡ 0) × (1024 ≤ n) × (r ≡ Statements k)) ⊎ ((m ≡ 0) × (n < 1024) × ((i : ℕ) × At nums n (st .number) i) × (r ≡ Issued k)))
 
 -- the index is that of the statements kept
-abbrev pub InStep : (nums : List ℕ) (n : ℕ) (head links : List ℕ) → Taken → Type 0
-InStep nums n head links Kept = Indexed nums (n + 1) head links
-InStep nums n head links (AtFault r) = Indexed nums n head links
+abbrev pub InStep : (nums : List ℕ) (n : ℕ) (links : List ℕ) → Taken → Type 0
+InStep nums n links Kept = Indexed nums (n + 1) links
+InStep nums n links (AtFault r) = Indexed nums n links
 
 -- the places y and x are those of an objection's numbers
 pub record Ends (nums : List ℕ) (n : ℕ) (o : ObjectionLine) (y x : ℕ) : Type 0 where

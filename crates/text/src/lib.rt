@@ -58,7 +58,6 @@ pub fn find(numbers: &[u32], n: usize, number: u32) -> usize
 fn take_statement(
     numbers: &mut [u32],
     marks: &mut [u8],
-    head: &mut [u16],
     links: &mut [u16],
     n: usize,
     m: usize,
@@ -66,8 +65,8 @@ fn take_statement(
     line_no: u32,
 ) -> Taken
     requires { ⌜ (n ≤ 1024) × (1024 ≤ length (now numbers)) × (1024 ≤ length (now marks)) ⌝ }
-    requires { ⌜ Indexed (now numbers) n (now head) (now links) ⌝ }
-    ensures { λ t. ⌜ StatementTaken (now (numbers .entry)) (now (marks .entry)) n m statement «line_no» (now (numbers .exit)) (now (marks .exit)) t × InStep (now (numbers .exit)) n (now (head .exit)) (now (links .exit)) t ⌝ }
+    requires { ⌜ Indexed (now numbers) n (now links) ⌝ }
+    ensures { λ t. ⌜ StatementTaken (now (numbers .entry)) (now (marks .entry)) n m statement «line_no» (now (numbers .exit)) (now (marks .exit)) t × InStep (now (numbers .exit)) n (now (links .exit)) t ⌝ }
 {
     if m > 0 {
         return Taken::AtFault(Refusal::Late(line_no));
@@ -76,11 +75,11 @@ fn take_statement(
         return Taken::AtFault(Refusal::Statements(line_no));
     }
     let number = statement.number;
-    if index::look_up(numbers, n, head, links, number) < n {
+    if index::look_up(numbers, n, links, number) < n {
         return Taken::AtFault(Refusal::Issued(line_no));
     }
     let mark = statement.mark;
-    index::enter(numbers, n, head, links, number);
+    index::enter(numbers, n, links, number);
     marks[n] = line::mark_number(mark);
     Taken::Kept
 }
@@ -88,7 +87,6 @@ fn take_statement(
 // Takes an objection line after n statements and m objections: 9, 7, 8, or kept, by the places of its numbers.
 fn take_objection(
     numbers: &[u32],
-    head: &[u16],
     links: &[u16],
     objectors: &mut [u32],
     targets: &mut [u32],
@@ -98,19 +96,19 @@ fn take_objection(
     line_no: u32,
 ) -> Taken
     requires { ⌜ (n ≤ 1024) × (m ≤ 4096) × (1024 ≤ length (now numbers)) × (4096 ≤ length (now objectors)) × (4096 ≤ length (now targets)) ⌝ }
-    requires { ⌜ Indexed (now numbers) n (now head) (now links) ⌝ }
+    requires { ⌜ Indexed (now numbers) n (now links) ⌝ }
     ensures { λ t. ⌜ ObjectionTaken (now (numbers .entry)) (now (objectors .entry)) (now (targets .entry)) n m objection «line_no» (now (objectors .exit)) (now (targets .exit)) t ⌝ }
 {
     if m >= 4096 {
         return Taken::AtFault(Refusal::Objections(line_no));
     }
     let objector = objection.objector;
-    let y = index::look_up(numbers, n, head, links, objector);
+    let y = index::look_up(numbers, n, links, objector);
     if y >= n {
         return Taken::AtFault(Refusal::Unknown(line_no));
     }
     let target = objection.target;
-    let x = index::look_up(numbers, n, head, links, target);
+    let x = index::look_up(numbers, n, links, target);
     if x >= n {
         return Taken::AtFault(Refusal::Unknown(line_no));
     }
@@ -129,12 +127,11 @@ fn read_lines(
     marks: &mut [u8],
     objectors: &mut [u32],
     targets: &mut [u32],
-    head: &mut [u16],
     links: &mut [u16],
 ) -> Reading
     requires { ⌜ (length (now text) ≤ 65535) × (¬ NotEnded (now text)) ⌝ }
     requires { ⌜ Spacious (now numbers) (now marks) (now objectors) (now targets) ⌝ }
-    requires { ⌜ Indexed (now numbers) 0 (now head) (now links) ⌝ }
+    requires { ⌜ Indexed (now numbers) 0 (now links) ⌝ }
     ensures { λ r. ⌜ ReadsTo (now (text .entry)) (now (numbers .exit)) (now (marks .exit)) (now (objectors .exit)) (now (targets .exit)) r ⌝ }
 {
     let mut at = 0;
@@ -147,7 +144,7 @@ fn read_lines(
         };
         match line {
             Line::Statement(statement) => {
-                let taken = take_statement(numbers, marks, head, links, n, m, statement, line_no);
+                let taken = take_statement(numbers, marks, links, n, m, statement, line_no);
                 if let Taken::AtFault(refusal) = taken {
                     return Reading::Refused(refusal);
                 }
@@ -158,7 +155,6 @@ fn read_lines(
             Line::Objection(objection) => {
                 let taken = take_objection(
                     numbers,
-                    head,
                     links,
                     objectors,
                     targets,
@@ -193,17 +189,8 @@ pub fn read(
         return Reading::Refused(Refusal::TooLong);
     }
     if ended(text) {
-        let mut head = [0u16; 2039];
-        let mut links = [0u16; 1024];
-        return read_lines(
-            text,
-            numbers,
-            marks,
-            objectors,
-            targets,
-            &mut head,
-            &mut links,
-        );
+        let mut links = [0u16; 4100];
+        return read_lines(text, numbers, marks, objectors, targets, &mut links);
     }
     Reading::Refused(Refusal::Unended)
 }

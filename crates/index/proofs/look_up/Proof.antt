@@ -1,60 +1,47 @@
--- `look_up` walks along the chain of its number. The invariant: no place seen has the number.
+-- `look_up` goes down by the digits of the number. The invariant: if it is there, it is at the node reached or below it.
 use native.Mathlib.Omega.{arith}
-use Rattle.index.proofs.Index.{Seeks, bucket-low, seek-begins, seek-place, seek-lower, seek-more, seek-found, seek-ends}
-use borrow.Author.Needs.{needs}
+use Rattle.index.proofs.Index.{left, Seeks, left-less, seek-begins, seek-more, seek-found, seek-ends}
 use Rattle.index.proofs.look_up.Statement.{statement}
 use Rattle.index.proofs.look_up.Tie as tie
 
 abbrev Inv-loop : tie.InvT-loop
-Inv-loop numbers n head next number b link₀ link = Seeks numbers n number link
+Inv-loop numbers n links number rest₀ node₀ rest node = Seeks numbers n links number rest node
 
 abbrev μ-loop : tie.MeasureT-loop
-μ-loop numbers n head next number b link₀ link = link
+μ-loop numbers n links number rest₀ node₀ rest node = left n node
 
-bucket-of-requires : tie.Need-bucket-of-requires Inv-loop μ-loop
-bucket-of-requires c κs = search needs
-
-mul-wide : tie.Need-mul-wide Inv-loop μ-loop
-mul-wide c = omega (arith, c .bucket-of .ensures, bucket-low (c .before .before .before .before .args .number))
-
-shared-slice-read-wide : tie.Need-shared-slice-read-wide Inv-loop μ-loop
-shared-slice-read-wide c = omega (arith, c .before .bucket-of .ensures, bucket-low (c .before .before .before .before .before .args .number), c .before .before .before .before .before .pre .head-room)
-
-wide-requires : tie.Need-wide-requires Inv-loop μ-loop
-wide-requires c κs = search needs
+below-requires : tie.Need-below-requires Inv-loop μ-loop
+below-requires c κs = (c .before .before .pre .links-room, omega arith)
 
 loop-holds : tie.Need-loop-holds Inv-loop μ-loop
-loop-holds c = seek-begins _ _ _ _ (c .before .before .before .before .before .before .pre) _ _ _ (c .before .before .bucket-of .ensures) (c .wide .ensures)
+loop-holds c = seek-begins _ _ _ (c .before .before .before .pre) _ _ (c .below .ensures)
 
-sub-x : tie.Need-sub-x Inv-loop μ-loop
-sub-x c = search needs
+sub-if1 : tie.Need-sub-if1 Inv-loop μ-loop
+sub-if1 c = omega (arith, c .loop-test .taken)
 
 mul-if1 : tie.Need-mul-if1 Inv-loop μ-loop
-mul-if1 c = omega (arith, seek-place _ _ _ _ (c .before .before .before .before .before .before .before .before .pre) _ _ (c .before .loop .inv) (c .loop-test .taken), c .before .before .before .before .before .before .before .before .pre .few)
+mul-if1 c = omega (arith, c .before .loop .inv .0, c .before .before .before .before .before .pre .few)
 
 shared-slice-read-if1 : tie.Need-shared-slice-read-if1 Inv-loop μ-loop
-shared-slice-read-if1 c = omega (arith, seek-place _ _ _ _ (c .before .before .before .before .before .before .before .before .before .pre) _ _ (c .before .before .loop .inv) (c .before .loop-test .taken), c .before .before .before .before .before .before .before .before .before .pre .within)
+shared-slice-read-if1 c = omega (arith, c .before .loop-test .taken, c .before .before .loop .inv .0, c .before .before .before .before .before .before .pre .within)
+
+sub-result : tie.Need-sub-result Inv-loop μ-loop
+sub-result c = omega (arith, c .before .before .loop-test .taken)
 
 returns : tie.Need-returns Inv-loop μ-loop
-returns c = seek-found _ _ _ _ (c .before .before .before .before .before .before .before .before .before .before .pre) _ _ (seek-place _ _ _ _ (c .before .before .before .before .before .before .before .before .before .before .pre) _ _ (c .before .before .before .loop .inv) (c .before .before .loop-test .taken)) (c .if1 .taken)
+returns c = seek-found _ _ _ (c .before .before .before .before .before .before .before .pre) _ _ (omega (arith, c .before .before .loop-test .taken, c .before .before .before .loop .inv .0)) (c .if1 .taken)
 
-mul-wide-2 : tie.Need-mul-wide-2 Inv-loop μ-loop
-mul-wide-2 c = omega (arith, seek-place _ _ _ _ (c .before .before .before .before .before .before .before .before .before .before .pre) _ _ (c .before .before .before .loop .inv) (c .before .before .loop-test .taken), c .before .before .before .before .before .before .before .before .before .before .pre .few)
-
-shared-slice-read-wide-2 : tie.Need-shared-slice-read-wide-2 Inv-loop μ-loop
-shared-slice-read-wide-2 c = omega (arith, seek-place _ _ _ _ (c .before .before .before .before .before .before .before .before .before .before .before .pre) _ _ (c .before .before .before .before .loop .inv) (c .before .before .before .loop-test .taken), c .before .before .before .before .before .before .before .before .before .before .before .pre .few, c .before .before .before .before .before .before .before .before .before .before .before .pre .next-room)
-
-wide-requires-2 : tie.Need-wide-requires-2 Inv-loop μ-loop
-wide-requires-2 c κs = search needs
+below-requires-2 : tie.Need-below-requires-2 Inv-loop μ-loop
+below-requires-2 c κs = (c .before .before .before .before .before .before .before .pre .links-room, omega (arith, c .before .before .before .loop .inv .0, c .before .before .before .before .before .before .before .pre .few))
 
 loop-less : tie.Need-loop-less Inv-loop μ-loop
-loop-less c = seek-lower _ _ _ _ (c .before .before .before .before .before .before .before .before .before .before .before .before .pre) _ _ _ (c .before .before .before .before .before .loop .inv) (c .before .before .before .before .loop-test .taken) (c .wide2 .ensures)
+loop-less c = left-less _ _ _ (c .before .before .before .before .before .before .before .before .pre) _ _ _ (c .before .before .before .before .loop .inv .0) (c .before .before .before .loop-test .taken) (c .below2 .ensures)
 
 loop-again : tie.Need-loop-again Inv-loop μ-loop
-loop-again c = seek-more _ _ _ _ (c .before .before .before .before .before .before .before .before .before .before .before .before .pre) _ _ _ (c .before .before .before .before .before .loop .inv) (c .before .before .before .before .loop-test .taken) (c .wide2 .ensures) (c .before .before .if1 .left)
+loop-again c = seek-more _ _ _ (c .before .before .before .before .before .before .before .before .pre) _ _ _ _ (c .before .before .before .before .loop .inv) (c .before .before .before .loop-test .taken) (c .before .if1 .left) (c .below2 .ensures)
 
 returns-2 : tie.Need-returns-2 Inv-loop μ-loop
-returns-2 c = seek-ends _ _ _ _ (c .before .before .before .before .before .before .before .before .pre) _ _ (c .before .loop .inv) (c .loop-test .left)
+returns-2 c = seek-ends _ _ _ (c .before .before .before .before .before .pre) _ _ _ (c .before .loop .inv) (c .loop-test .left)
 
 pub look-up-spec : {M : Type 1} → statement M
 look-up-spec =
@@ -62,18 +49,14 @@ look-up-spec =
     (tie.spec
     Inv-loop
     μ-loop
-    bucket-of-requires
-    mul-wide
-    shared-slice-read-wide
-    wide-requires
+    below-requires
     loop-holds
-    sub-x
+    sub-if1
     mul-if1
     shared-slice-read-if1
+    sub-result
     returns
-    mul-wide-2
-    shared-slice-read-wide-2
-    wide-requires-2
+    below-requires-2
     loop-less
     loop-again
     returns-2)

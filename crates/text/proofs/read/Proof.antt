@@ -14,11 +14,8 @@ ended-requires c κs = search needs
 slice-aggregate-read-lines : tie.Need-slice-aggregate-read-lines
 slice-aggregate-read-lines c = search needs
 
-slice-aggregate-read-lines-2 : tie.Need-slice-aggregate-read-lines-2
-slice-aggregate-read-lines-2 c = search needs
-
 read-lines-requires : tie.Need-read-lines-requires
-read-lines-requires c κs = ((omega arith, c .before .before .before .before .before .before .before .ended .ensures .0 (c .before .before .before .before .before .before .if2 .taken)), (c .before .before .before .before .before .before .before .before .before .before .before .before .before .before .pre, indexed-none _))
+read-lines-requires c κs = ((omega arith, c .before .before .before .before .before .before .ended .ensures .0 (c .before .before .before .before .before .if2 .taken)), (c .before .before .before .before .before .before .before .before .before .before .before .before .before .pre, indexed-none _))
 
 same-length : tie.Need-same-length
 same-length c = search needs
@@ -45,7 +42,6 @@ read-spec =
     returns
     ended-requires
     slice-aggregate-read-lines
-    slice-aggregate-read-lines-2
     read-lines-requires
     same-length
     same-length-2

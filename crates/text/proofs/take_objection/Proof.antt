@@ -10,13 +10,13 @@ returns : tie.Need-returns
 returns c = inl (c .if1 .taken, refl)
 
 look-up-requires : tie.Need-look-up-requires
-look-up-requires c κs = c .before .before .before .before .before .before .pre .1
+look-up-requires c κs = c .before .before .before .before .before .pre .1
 
 returns-2 : tie.Need-returns-2
 returns-2 c = inr (inl (omega arith, inl (λ i l. c .before .look-up .ensures .1 i (omega arith)), refl))
 
 look-up-requires-2 : tie.Need-look-up-requires-2
-look-up-requires-2 c κs = c .before .before .before .before .before .before .before .before .pre .1
+look-up-requires-2 c κs = c .before .before .before .before .before .before .before .pre .1
 
 returns-3 : tie.Need-returns-3
 returns-3 c = inr (inl (omega arith, inr (λ i l. c .before .look-up2 .ensures .1 i (omega arith)), refl))

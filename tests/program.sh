@@ -1,7 +1,8 @@
 #!/usr/bin/env bash
 # The outside tests of the listing program: what it prints, and how it takes an input that comes
-# slowly, is too long or cannot be read, and an output that cannot be written. tests/run starts it,
-# after it has built the program and the second solver. The very last line is 'N passed, M failed'.
+# slowly, breaks off, is too long or cannot be read, and an output that cannot be written. tests/run
+# starts it, after it has built the program and the second solver. The very last line is 'N passed,
+# M failed'.
 set -u
 cd "$(dirname "$0")/.." || exit 1
 . tests/programs.sh
@@ -89,6 +90,62 @@ in_pieces() {
     split -b "$2" --filter='cat; sleep 0.02' "$1" | prints "$work/right"
 }
 
+# broken_off BYTES: so many bytes come, and no more: whoever writes them is killed
+broken_off() {
+    bash -c "head -c $1 examples/game.txt && sleep 0.2 && kill -KILL \$\$"
+}
+
+broken_off_in_a_line() {
+    broken_off 45 | refuses 2 0
+}
+
+# what came then is a register; nobody can tell that more was meant
+broken_off_between_lines() {
+    head -n 3 examples/game.txt >"$work/part"
+    second <"$work/part" >"$work/right"
+    broken_off "$(wc -c <"$work/part")" | prints "$work/right"
+}
+
+# feed PID FILE: the text, in two pieces; between them the program is stopped, and it is continued
+# when all is there
+feed() {
+    head -c 45 "$2"
+    sleep 0.3
+    kill -STOP "$1"
+    tail -c +46 "$2"
+    sleep 0.1
+    kill -CONT "$1"
+}
+
+stopped_and_continued() {
+    local program
+    second <examples/game.txt >"$work/right"
+    rm -f "$work/queue"
+    mkfifo "$work/queue"
+    "${start_list[@]}" target/bin/list <"$work/queue" >"$work/out" 2>"$work/said" &
+    program=$!
+    feed "$program" examples/game.txt >"$work/queue"
+    timeout 30 tail --pid="$program" -f /dev/null || kill -KILL "$program"
+    wait "$program"
+    cat "$work/said"
+    cmp "$work/out" "$work/right" && [ ! -s "$work/said" ]
+}
+
+# the last byte that there may be, and the first that there may not, come late
+just_not_too_long() {
+    second <"$work/most" >"$work/right"
+    { head -c 65534 "$work/most" && sleep 0.3 && tail -c 1 "$work/most"; } | prints "$work/right"
+}
+
+just_too_long() {
+    { cat "$work/most" && sleep 0.3 && printf '\n'; } | refuses 1 0
+}
+
+# bytes FILE COUNT: the file has just so many
+bytes() {
+    [ "$(wc -c <"$1")" -eq "$2" ]
+}
+
 slow_reader() {
     second <"$work/longest" >"$work/right"
     list <"$work/longest" | { sleep 0.5 && cat; } | cmp - "$work/right"
@@ -99,6 +156,16 @@ in_a_pipeline() {
     # shellcheck disable=SC2002 # the input is to come from another program
     standing=$(cat examples/quilt.txt | list | awk -F '\t' '$2 == "stands"' | wc -l)
     [ "$standing" -eq 7 ]
+}
+
+# fallen: the numbers of the statements that fall, in order
+fallen() {
+    grep -F "$(printf '\tfalls\t')" | cut -f 1 | sort -n
+}
+
+sorted_in_a_pipeline() {
+    second <examples/quilt.txt | fallen >"$work/right"
+    list <examples/quilt.txt | fallen | cmp - "$work/right" && [ -s "$work/right" ]
 }
 
 first_command() {
@@ -142,19 +209,39 @@ ended() {
     [ "$1" -eq 0 ] || [ "$1" -eq $((128 + $(kill -l PIPE))) ]
 }
 
+# tells STATUS: the program ended, and has said what could not be written
+tells() {
+    cat "$work/said"
+    ended "$1" && grep -q '^list: standard output: ' "$work/said"
+}
+
 output_closed() {
-    list <"$1" >&-
-    ended $?
+    list <"$1" 2>"$work/said" >&-
+    tells $?
 }
 
 output_full() {
-    list <"$1" >/dev/full
-    ended $?
+    list <"$1" 2>"$work/said" >/dev/full
+    tells $?
+}
+
+# a disk that is full after 70 KiB: one piece is taken, and of the next a part
+output_fills_up() {
+    local status
+    second <"$work/longest" >"$work/right"
+    (
+        trap '' XFSZ
+        ulimit -f 70
+        list <"$work/longest" 2>"$work/said" >"$work/out"
+    )
+    status=$?
+    bytes "$work/out" $((70 * 1024)) && cmp -n $((70 * 1024)) "$work/out" "$work/right" &&
+        tells "$status"
 }
 
 pipe_closed() {
     local status
-    list <"$work/longest" | head -c 1 >"$work/out"
+    list <"$work/longest" 2>"$work/said" | head -c 1 >"$work/out"
     status=${PIPESTATUS[0]}
     [ "$(cat "$work/out")" = R ] && ended "$status"
 }
@@ -163,8 +250,19 @@ pipe_closed() {
 pipe_closed_unsignalled() {
     (
         trap '' PIPE
-        pipe_closed
+        pipe_closed && tells 0
     )
+}
+
+# nothing that is said is printed, and what is printed does not wait for what is said
+nobody_listens() {
+    list <examples/game.txt 2>&- | cmp - examples/game.listing &&
+        [ -z "$(list <examples 2>&-)" ]
+}
+
+without_environment() {
+    env -i "$(command -v timeout)" 30 "${start_list[@]}" target/bin/list <examples/game.txt |
+        cmp - examples/game.listing
 }
 
 # traced: the program's system calls go to the file trace
@@ -212,8 +310,15 @@ try 'the first command of the README' first_command
 try 'no input' agrees /dev/null
 try 'an input that comes byte by byte' in_pieces examples/game.txt 1
 try 'a long input that comes in pieces' in_pieces "$work/longest" 4000
+try 'an input that breaks off in a line' broken_off_in_a_line
+try 'an input that breaks off between lines' broken_off_between_lines
+try 'stopped and continued while it reads' stopped_and_continued
+try 'there are texts of 65,535 bytes' bytes "$work/most" 65535
+try 'there are texts of 65,536 bytes' bytes "$work/over" 65536
 try '65,535 bytes' agrees "$work/most"
+try '65,535 bytes, the last one late' just_not_too_long
 try '65,536 bytes' refuses 1 0 <"$work/over"
+try '65,536 bytes, the last one late' just_too_long
 try '65,536 bytes that come in pieces' too_long_in_pieces
 try '200,000 bytes' far_too_long
 try 'an input without an end' endless
@@ -230,14 +335,19 @@ try 'the 4,097th objection' too_many_objections
 try 'a listing of more than 65,536 bytes' agrees "$work/longest"
 try 'a listing that is taken slowly' slow_reader
 try 'between two other programs' in_a_pipeline
+try 'before grep, cut and sort' sorted_in_a_pipeline
 try 'between the program and itself' after_itself
 
 try 'a folder as input' not_read <examples
 try 'no standard input' not_read <&-
+try 'an input that is only to be written' not_read 0>"$work/unread"
+try 'no standard error' nobody_listens
+try 'no environment' without_environment
 try 'no standard output' output_closed examples/game.txt
 try 'no standard output for a long listing' output_closed "$work/longest"
 try 'a full device' output_full examples/game.txt
 try 'a full device for a long listing' output_full "$work/longest"
+try 'a disk that fills up' output_fills_up
 try 'a pipe that is closed' pipe_closed
 try 'a pipe that is closed, without the signal' pipe_closed_unsignalled
 

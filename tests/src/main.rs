@@ -2,6 +2,7 @@
 //! second solver that shares nothing with it. The words after this program's name are the command
 //! that starts the caller (caller.c); tests/run gives them. Two more uses are for tests/program.sh:
 //! `print` prints what the listing program ought to print, `examples FOLDER` writes 01's examples.
+//! One is for fuzz/run: `corpus TEXTS LISTS CALLER WORDS..` tries what lies in two folders.
 
 #![deny(warnings)]
 #![forbid(unsafe_code)]
@@ -20,16 +21,23 @@ use second::listing;
 use std::io::{Error, Read, Write};
 use std::path::Path;
 use std::process::ExitCode;
+use suites::Test;
+
+const USAGE: &str = "usage: outside CALLER WORDS.., print, examples FOLDER, \
+                     or corpus TEXTS LISTS CALLER WORDS..";
 
 fn main() -> ExitCode {
     let words: Vec<String> = std::env::args().skip(1).collect();
     let ended = match words.as_slice() {
-        [] => Err("usage: outside CALLER WORDS.., print, or examples FOLDER".to_string()),
+        [] => Err(USAGE.to_string()),
         [word] if word == "print" => print().map_err(|error| error.to_string()),
         [word, folder] if word == "examples" => {
             write_examples(Path::new(folder)).map_err(|error| error.to_string())
         }
-        command => run_tests(command),
+        [word, texts, lists, command @ ..] if word == "corpus" && !command.is_empty() => {
+            run_tests(&suites::corpus::of(texts.into(), lists.into()), command)
+        }
+        command => run_tests(&suites::all(), command),
     };
     ended.unwrap_or_else(|why| {
         eprintln!("{why}");
@@ -61,9 +69,9 @@ fn write_examples(folder: &Path) -> Result<ExitCode, Error> {
     Ok(ExitCode::SUCCESS)
 }
 
-/// Runs the tests, and prints the sum on the last line.
-fn run_tests(command: &[String]) -> Result<ExitCode, String> {
-    let sum = run::all(command)?;
+/// Runs these tests, and prints the sum on the last line.
+fn run_tests(tests: &[Test], command: &[String]) -> Result<ExitCode, String> {
+    let sum = run::all(tests, command)?;
     println!("{} comparisons", sum.comparisons);
     println!("{} passed, {} failed", sum.passed, sum.failed);
     Ok(ExitCode::from(u8::from(sum.failed > 0)))

@@ -3,7 +3,7 @@
 
 use crate::library::caller::Caller;
 use crate::library::session::Session;
-use crate::suites::{self, Test};
+use crate::suites::Test;
 use std::sync::atomic::{AtomicUsize, Ordering};
 use std::sync::Mutex;
 use std::thread;
@@ -16,17 +16,16 @@ pub struct Sum {
     pub comparisons: u64,
 }
 
-/// Runs all tests. The command starts a caller.
-pub fn all(command: &[String]) -> Result<Sum, String> {
+/// Runs all these tests. The command starts a caller.
+pub fn all(tests: &[Test], command: &[String]) -> Result<Sum, String> {
     let count = thread::available_parallelism().map_or(1, |count| count.get());
     let start = |_| Caller::start(command);
     let callers = (0..count).map(start).collect::<Result<Vec<_>, _>>()?;
-    let tests = suites::all();
     let next = AtomicUsize::new(0);
     let sum = Mutex::new(Sum::default());
     thread::scope(|scope| {
         for caller in callers {
-            scope.spawn(|| work(Session::new(caller), &tests, &next, &sum));
+            scope.spawn(|| work(Session::new(caller), tests, &next, &sum));
         }
     });
     sum.into_inner().map_err(|error| error.to_string())

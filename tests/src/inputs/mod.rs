@@ -1,7 +1,8 @@
 //! What is handed to the library: small registers in full, random ones of many shapes, the examples
-//! of document 01 and of the folder examples, as lists and as texts; damaged texts; and rooms of
-//! many lengths.
+//! of document 01 and of the folder examples, as lists and as texts; damaged texts; what fuzzing
+//! has kept; and rooms of many lengths.
 
+pub mod corpus;
 pub mod crafted;
 pub mod damage;
 pub mod draft;

@@ -2,6 +2,7 @@
 //! difference and shows the input.
 
 mod asked;
+pub mod corpus;
 mod examples;
 mod limits;
 mod meaning;
@@ -46,6 +47,7 @@ pub fn all() -> Vec<Test> {
         order::tests(),
         texts::tests(),
         asked::tests(),
+        corpus::tests(),
     ];
     suites.into_iter().flatten().collect()
 }

@@ -16,7 +16,7 @@ use crate::library::session::Session;
 use crate::second::expected::Expected;
 
 /// Every number of turns that may be asked, two more, and the greatest that can be handed over.
-const TURNS: [u32; 10] = [0, 1, 2, 3, 4, 5, 6, 7, 8, u32::MAX];
+pub const TURNS: [u32; 10] = [0, 1, 2, 3, 4, 5, 6, 7, 8, u32::MAX];
 
 pub fn tests() -> Vec<Test> {
     let suites = [
@@ -32,7 +32,7 @@ pub fn tests() -> Vec<Test> {
 }
 
 /// Holds the line of each of these statements, in a room of just its length.
-fn hold_lines(
+pub fn hold_lines(
     session: &mut Session,
     handed: &Handed,
     expected: &Expected,
@@ -46,7 +46,7 @@ fn hold_lines(
 }
 
 /// Holds the exercise on each of these statements with each number of turns.
-fn hold_exercises(
+pub fn hold_exercises(
     session: &mut Session,
     handed: &Handed,
     expected: &Expected,

@@ -1,0 +1,124 @@
+/* The fuzzer's target for register texts. Plain C reads and solves each text, instrumented, so that
+ * its branches guide the fuzzer; then every call on the text is made of the library, and both must
+ * agree. The reader of bench/ is included for what it keeps to itself. */
+#include "../bench/plain_text.c"
+#include "library.h"
+#include "met.h"
+
+/* A text with what plain C makes of it. */
+static struct {
+    struct page page;
+    batqemulo_answer found;
+    uint8_t labels[BATQEMULO_MAX_STATEMENTS];
+    uint16_t lengths[BATQEMULO_MAX_STATEMENTS];
+    uint8_t listing[BATQEMULO_MAX_LISTING_BYTES];
+    size_t listed;
+} plain;
+
+static void meet(void) {
+    const struct page *page = &plain.page;
+    meet_refusal(plain.found.refusal);
+    if (plain.found.refusal != BATQEMULO_ACCEPTED)
+        return;
+    for (size_t x = 0; x < page->statements; x++)
+        meet_statement(plain.labels[x], plain.lengths[x]);
+    for (size_t i = 0; i < page->objections; i++)
+        meet_objection(plain.labels[page->objectors[i]], plain.labels[page->targets[i]]);
+}
+
+static void solve_plainly(const uint8_t *text, size_t len) {
+    struct page *page = &plain.page;
+    page->statements = 0;
+    page->objections = 0;
+    plain.listed = 0;
+    plain.found = read_text(page, text, len);
+    if (plain.found.refusal != BATQEMULO_ACCEPTED)
+        return;
+    plain_solve(page->marks, page->statements, page->objectors, page->targets, page->objections,
+                plain.labels, plain.lengths);
+    plain.listed = print(plain.listing, page, plain.labels, plain.lengths);
+}
+
+/* A call that writes this answer into one room. */
+static void hold_room(enum call call, const uint8_t *text, size_t len, size_t width,
+                      const void *written, size_t needed, uint32_t thrown) {
+    struct request request = {.call = call};
+    batqemulo_answer right = plain.found;
+    lend(&request, 1, text, len);
+    if (right.refusal != BATQEMULO_ACCEPTED)
+        lend_room(&request, width, thrown % 40, NULL, 0);
+    else if (lend_room(&request, width, near(needed, thrown), written, needed))
+        right = answer(BATQEMULO_ROOM_TOO_SHORT, 0);
+    else
+        right.value = (uint32_t)needed;
+    hold(&request, right);
+}
+
+/* The asked statement's place: one on the register, or now and then none, which is the number of
+ * statements. */
+static size_t asked_place(uint32_t thrown) {
+    size_t statements = plain.page.statements;
+    return thrown % 16 == 0 ? statements : thrown / 16 % (statements + 1);
+}
+
+/* Its number; one that is not there is 0, above all numbers, or just not issued. */
+static uint32_t asked_number(size_t place, uint32_t thrown) {
+    if (place < plain.page.statements)
+        return plain.page.numbers[place];
+    if (thrown % 3 == 0)
+        return thrown % 2 * 100000000u;
+    uint32_t number = thrown % 99999999u + 1;
+    while (*slot_of(&plain.page, number) != 0)
+        number = number % 99999999u + 1;
+    return number;
+}
+
+static void hold_line(const uint8_t *text, size_t len, uint32_t thrown) {
+    uint32_t line[BATQEMULO_MAX_LINE_ENTRIES];
+    const struct page *page = &plain.page;
+    size_t place = asked_place(thrown), needed = 0;
+    struct request request = {.call = TEXT_LINE, .statement = asked_number(place, thrown)};
+    batqemulo_answer right = plain.found;
+    if (right.refusal == BATQEMULO_ACCEPTED)
+        right = plain_pairs_line(page->marks, page->statements, page->objectors, page->objections,
+                                 page->targets, page->objections, (uint32_t)place, line,
+                                 BATQEMULO_MAX_LINE_ENTRIES);
+    if (right.refusal == BATQEMULO_ACCEPTED)
+        needed = right.value;
+    for (size_t i = 0; i < needed; i++)
+        line[i] = page->numbers[line[i]];
+    lend(&request, 1, text, len);
+    if (lend_room(&request, 4, near(needed, thrown), line, needed))
+        right = answer(BATQEMULO_ROOM_TOO_SHORT, 0);
+    hold(&request, right);
+}
+
+static void hold_exercise(const uint8_t *text, size_t len, uint32_t thrown) {
+    const struct page *page = &plain.page;
+    size_t place = asked_place(thrown);
+    uint32_t turns = thrown / 7 % 32 == 0 ? thrown : thrown / 7 % 8;
+    struct request request = {
+        .call = TEXT_EXERCISE, .statement = asked_number(place, thrown), .turns = turns};
+    batqemulo_answer right = plain.found;
+    if (right.refusal == BATQEMULO_ACCEPTED)
+        right =
+            plain_pairs_exercise(page->marks, page->statements, page->objectors, page->objections,
+                                 page->targets, page->objections, (uint32_t)place, turns);
+    lend(&request, 1, text, len);
+    hold(&request, right);
+}
+
+int LLVMFuzzerTestOneInput(const uint8_t *text, size_t len) {
+    uint32_t thrown = dice(text, len);
+    size_t statements = 0;
+    solve_plainly(text, len);
+    meet();
+    if (plain.found.refusal == BATQEMULO_ACCEPTED)
+        statements = plain.page.statements;
+    hold_room(LISTING, text, len, 1, plain.listing, plain.listed, thrown);
+    hold_room(TEXT_LABELS, text, len, 1, plain.labels, statements, thrown >> 3);
+    hold_room(TEXT_LENGTHS, text, len, 2, plain.lengths, statements, thrown >> 6);
+    hold_line(text, len, thrown >> 9);
+    hold_exercise(text, len, thrown >> 9);
+    return 0;
+}

@@ -1,5 +1,6 @@
 // The listing of a register, written into a lent room: a header, a row for each statement with its label and length, and a
 // row for each objection with its kind and length. Reading the register and finding the labels are left to others.
+use chain::place;
 use game::Kind;
 ghost use mathlib.Core.List.{List, _++_};
 ghost use mathlib.Core.Path.{_≡_};
@@ -9,12 +10,6 @@ ghost use Rattle.line.specs.Number.{decimal};
 ghost use Rattle.text.specs.Register.{Register};
 ghost use Rattle.listing.specs.Listing.{numbersRow, header, refusedRow, statementRow, objectionRow, IsListing, Ready};
 ghost use Rattle.listing.specs.Room.{Fits, Put, verdictFields, kindFields, said, statementPart, objectionPart, Lists};
-
-fn place(x: u32) -> usize
-    ensures { λ r. ⌜ r ≡ x ⌝ }
-{
-    x as usize
-}
 
 // How many digits a number has.
 fn number_size(number: u32) -> usize

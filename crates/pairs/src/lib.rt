@@ -1,5 +1,6 @@
 // Lists handed over by another program, in whatever state they are: accepted, or refused with 01's number and the first
 // entry at fault. Labels, and the room for the answer, are left to others.
+use chain::place;
 use refusal::Refusal;
 ghost use mathlib.Core.Path.{_≡_};
 ghost use Prim.Native.Nat.{_<_, _≤_};
@@ -10,12 +11,6 @@ ghost use Rattle.pairs.specs.Refuses.{BadMark, BadPlace, Repeat, Same, C
 pub enum Checked {
     Accepted,
     Refused(Refusal),
-}
-
-fn place(x: u32) -> usize
-    ensures { λ r. ⌜ r ≡ x ⌝ }
-{
-    x as usize
 }
 
 // The first mark other than 0 or 1, or the number of marks.

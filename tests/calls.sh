@@ -31,10 +31,17 @@ asks_nothing() { ! grep -q '\brequires\b' <<<"$1"; }
 
 has_row() { grep -q "^| \`$1\` |" docs/PROMISES.md; }
 
+# said_by THEOREM: what the theorem says, on one line
+said_by() {
+    awk -v name="$1" '
+        $1 == "pub" && $2 == name && $3 == ":" { inside = 1 }
+        inside && $1 == name { exit }
+        inside { printf "%s ", $0 }' crates/*/proofs/Unique.antt
+}
+
 # has_theorem CALL PROMISE: a theorem of that name has the promise twice before its conclusion
 has_theorem() {
-    local theorem=unique-${1//_/-}
-    grep -h "^ *pub $theorem : " crates/*/proofs/Unique.antt | grep -q "\b$2\b.*→.*\b$2\b.*→.* ≡ "
+    said_by "unique-${1//_/-}" | grep -q "\b$2\b.*→.*\b$2\b.*→.* ≡ "
 }
 
 # edits_named: the edits that PROMISES.md names, by the rows that say so

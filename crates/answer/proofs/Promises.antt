@@ -15,15 +15,20 @@ pub through : {A B C : Type 0} → A ↔ B → B ↔ C → A ↔ C
 through (f, g) (h, k) = (λ a. h (f a), λ c. g (k c))
 
 -- A promise is unique where the refusal is, the answer is, and the two exclude each other.
-module _ {Rooms : Type 0} (refuses : Refusal → Type 0) (gives : ℕ → Rooms → Type 0) (one : (r r′ : Refusal) → refuses r → refuses r′ → r ≡ r′) (apart : (r : Refusal) (n : ℕ) (after : Rooms) → refuses r → gives n after → ⊥) where
-  pub promised-unique : ((n n′ : ℕ) (after after′ : Rooms) → gives n after → gives n′ after′ → (n ≡ n′) × (after ≡ after′)) → (rooms : Rooms) (a a′ : Answer) (after after′ : Rooms) → Promised refuses gives rooms a after → Promised refuses gives rooms a′ after′ → (a ≡ a′) × (after ≡ after′)
+module _ {Rooms : Type 0} (refuses : Refusal → Type 0) (gives : ℕ → Rooms → Type 0)
+    (one : (r r′ : Refusal) → refuses r → refuses r′ → r ≡ r′)
+    (apart : (r : Refusal) (n : ℕ) (after : Rooms) → refuses r → gives n after → ⊥) where
+  pub promised-unique : ((n n′ : ℕ) (after after′ : Rooms) → gives n after → gives n′ after′ → (n ≡ n′) × (after ≡ after′))
+      → (rooms : Rooms) (a a′ : Answer) (after after′ : Rooms) → Promised refuses gives rooms a after
+      → Promised refuses gives rooms a′ after′ → (a ≡ a′) × (after ≡ after′)
   promised-unique same rooms (Refused r) (Refused r′) after after′ p q = (ap Refused (one r r′ (p .0) (q .0)), p .1 ∙ sym (q .1))
   promised-unique same rooms (Refused r) (Given n) after after′ p q = absurd (apart r n after′ (p .0) q)
   promised-unique same rooms (Given n) (Refused r) after after′ p q = absurd (apart r n after (q .0) p)
   promised-unique same rooms (Given n) (Given n′) after after′ p q = let (e, f) = same n n′ after after′ p q in (ap Given e, f)
 
   -- a refusal is given exactly when it is due
-  pub refused-exactly : (rooms : Rooms) (a : Answer) (after : Rooms) → Promised refuses gives rooms a after → (r : Refusal) → (a ≡ Refused r) ↔ refuses r
+  pub refused-exactly : (rooms : Rooms) (a : Answer) (after : Rooms) → Promised refuses gives rooms a after → (r : Refusal)
+      → (a ≡ Refused r) ↔ refuses r
   refused-exactly rooms a after p r = (λ e. subst (λ b. Promised refuses gives rooms b after) e p .0, due a p)
     where
       due : (a : Answer) → Promised refuses gives rooms a after → refuses r → a ≡ Refused r

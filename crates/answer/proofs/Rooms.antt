@@ -14,7 +14,8 @@ module _ (entry : ℕ → ℕ → Type 0) (room : List ℕ) where
   begins-none = record { fits = omega arith; same = refl; each = λ k h. absurd (omega arith); rest = λ k h. refl }
 
   -- one more entry is written
-  pub begins-more : (n : ℕ) (after : List ℕ) (e : ℕ) → Begins n entry room after → n < length room → entry n e → Begins (n + 1) entry room (set after n e)
+  pub begins-more : (n : ℕ) (after : List ℕ) (e : ℕ) → Begins n entry room after → n < length room → entry n e
+      → Begins (n + 1) entry room (set after n e)
   begins-more n after e b h p = record {
     fits = omega arith;
     same = length-set after n e ∙ b .same;
@@ -27,7 +28,8 @@ module _ (entry : ℕ → ℕ → Type 0) (room : List ℕ) where
       here k l (no q) = rw (getD-set-other after n k e 0 q) (b .each k (omega arith))
 
   -- where each entry can be only one, so can the room
-  pub begins-unique : (n : ℕ) (after after′ : List ℕ) → ((k e e′ : ℕ) → k < n → entry k e → entry k e′ → e ≡ e′) → Begins n entry room after → Begins n entry room after′ → after ≡ after′
+  pub begins-unique : (n : ℕ) (after after′ : List ℕ) → ((k e e′ : ℕ) → k < n → entry k e → entry k e′ → e ≡ e′)
+      → Begins n entry room after → Begins n entry room after′ → after ≡ after′
   begins-unique n after after′ one a b = ext-getD 0 after after′ (a .same ∙ sym (b .same)) (λ k h. at k (decLt k n))
     where
       at : (k : ℕ) → Dec (k < n) → getD after k 0 ≡ getD after′ k 0
@@ -35,5 +37,7 @@ module _ (entry : ℕ → ℕ → Type 0) (room : List ℕ) where
       at k (no h) = a .rest k (omega arith) ∙ sym (b .rest k (omega arith))
 
 -- a room that begins with a list is one, and so is the number of its entries
-pub written-unique : (l l′ room : List ℕ) (n n′ : ℕ) (after after′ : List ℕ) → l ≡ l′ → Written l room n after → Written l′ room n′ after′ → (n ≡ n′) × (after ≡ after′)
-written-unique l l′ room n n′ after after′ q (c, h, e) (c′, h′, e′) = (c ∙ ap length q ∙ sym c′, e ∙ ap (λ k. k ++ drop (length k) room) q ∙ sym e′)
+pub written-unique : (l l′ room : List ℕ) (n n′ : ℕ) (after after′ : List ℕ) → l ≡ l′ → Written l room n after
+    → Written l′ room n′ after′ → (n ≡ n′) × (after ≡ after′)
+written-unique l l′ room n n′ after after′ q (c, h, e) (c′, h′, e′) =
+    (c ∙ ap length q ∙ sym c′, e ∙ ap (λ k. k ++ drop (length k) room) q ∙ sym e′)

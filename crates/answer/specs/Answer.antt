@@ -11,7 +11,8 @@ use Rattle.answer.specs.declared.Answer.the-variants.{Refused, Given}
 
 -- "A refusal gives its number and place and leaves every lent room as found." `refuses` says which refusal is given, and
 -- `gives` what the answer is and what the rooms then hold.
-abbrev pub Promised : {Rooms : Type 0} → (refuses : Refusal → Type 0) → (gives : ℕ → Rooms → Type 0) → Rooms → Answer → Rooms → Type 0
+abbrev pub Promised : {Rooms : Type 0} → (refuses : Refusal → Type 0) → (gives : ℕ → Rooms → Type 0)
+    → Rooms → Answer → Rooms → Type 0
 Promised refuses gives rooms (Refused r) after = refuses r × (after ≡ rooms)
 Promised refuses gives rooms (Given n) after = gives n after
 
@@ -34,4 +35,5 @@ Short short r = short × (r ≡ Room)
 
 -- Of a call that asks about a statement, "then 14, 15, 10": `there` says that the asked statement is on the register.
 abbrev pub Asks : (there : Type 0) → (turns : ℕ) → (short : Type 0) → Refusal → Type 0
-Asks there turns short r = ((¬ there) × (r ≡ Asked)) ⊎ ((there × (6 < turns) × (r ≡ Turns)) ⊎ (there × (turns ≤ 6) × Short short r))
+Asks there turns short r =
+    ((¬ there) × (r ≡ Asked)) ⊎ ((there × (6 < turns) × (r ≡ Turns)) ⊎ (there × (turns ≤ 6) × Short short r))

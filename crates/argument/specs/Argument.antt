@@ -38,4 +38,5 @@ Turns labels lengths x n = (getD labels x 0 ≡ 0 → n ≡ 0) × ((getD labels 
 -- y objects to x, and has this label and this length
 abbrev pub Onward : (objectors targets labels lengths : List ℕ) → (x label turns y : ℕ) → Type 0
 Onward objectors targets labels lengths x label turns y =
-    ((e : ℕ) × (e < length objectors) × (getD targets e 0 ≡ x) × (getD objectors e 0 ≡ y)) × (getD labels y 0 ≡ label) × (getD lengths y 0 ≡ turns)
+    ((e : ℕ) × (e < length objectors) × (getD targets e 0 ≡ x) × (getD objectors e 0 ≡ y))
+    × (getD labels y 0 ≡ label) × (getD lengths y 0 ≡ turns)

@@ -47,9 +47,11 @@ fn onward(
     label: u8,
     turns: u16,
 ) -> usize
-    requires { ⌜ Settled (now marks) (now objectors) (now targets) (now labels) (now lengths) × Chains (now marks) (now targets) (now head) (now next) × (x < length (now marks)) ⌝ }
+    requires { ⌜ Settled (now marks) (now objectors) (now targets) (now labels) (now lengths)
+        × Chains (now marks) (now targets) (now head) (now next) × (x < length (now marks)) ⌝ }
     requires { ⌜ ((y : ℕ) × Onward (now objectors) (now targets) (now labels) (now lengths) x label turns y) ⌝ }
-    ensures { λ y. ⌜ Least (Onward (now (objectors .entry)) (now (targets .entry)) (now (labels .entry)) (now (lengths .entry)) x label turns) y ⌝ }
+    ensures { λ y. ⌜ Least (Onward (now (objectors .entry)) (now (targets .entry)) (now (labels .entry)) (now (lengths .entry)) x
+        label turns) y ⌝ }
 {
     let mut earliest = marks.len();
     let mut c = wide(head[x]);
@@ -83,9 +85,11 @@ fn write(
     turns: u16,
     line: &mut [u32],
 )
-    requires { ⌜ Settled (now marks) (now objectors) (now targets) (now labels) (now lengths) × Chains (now marks) (now targets) (now head) (now next) ⌝ }
+    requires { ⌜ Settled (now marks) (now objectors) (now targets) (now labels) (now lengths)
+        × Chains (now marks) (now targets) (now head) (now next) ⌝ }
     requires { ⌜ (x < length (now marks)) × Turns (now labels) (now lengths) x turns × (turns < length (now line)) ⌝ }
-    ensures { λ _. ⌜ ((l : List ℕ) × Line (bookOf (now (marks .entry)) (now (objectors .entry)) (now (targets .entry))) x l × (now (line .exit) ≡ l ++ drop (length l) (now (line .entry)))) ⌝ }
+    ensures { λ _. ⌜ ((l : List ℕ) × Line (bookOf (now (marks .entry)) (now (objectors .entry)) (now (targets .entry))) x l
+        × (now (line .exit) ≡ l ++ drop (length l) (now (line .entry)))) ⌝ }
 {
     line[0] = x as u32;
     if turns == 0 {
@@ -129,7 +133,8 @@ pub fn line(
     room: &mut [u32],
 ) -> usize
     requires { ⌜ Settled (now marks) (now objectors) (now targets) (now labels) (now lengths) × (x < length (now marks)) ⌝ }
-    ensures { λ r. ⌜ Lined (bookOf (now (marks .entry)) (now (objectors .entry)) (now (targets .entry))) x (now (room .entry)) r (now (room .exit)) ⌝ }
+    ensures { λ r. ⌜ Lined (bookOf (now (marks .entry)) (now (objectors .entry)) (now (targets .entry))) x (now (room .entry)) r
+        (now (room .exit)) ⌝ }
 {
     let after = turns(labels, lengths, x);
     let n = wide(after) + 1;

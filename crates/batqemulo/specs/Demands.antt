@@ -1,6 +1,6 @@
--- The three demands, said of what the public calls promise: the top of everything, where a reader starts. `Settled` and `Answers` are said of
--- every text and of every handed list (demand 1); what a written label, length or kind says, by demands 2 and 3, is said of a book
--- and its places. That the promises say so is proved in the crate `demands`.
+-- The three demands, said of what the public calls promise: the top of everything, where a reader starts. `Settled` and
+-- `Answers` are said of every text and of every handed list (demand 1); what a written label, length or kind says, by demands
+-- 2 and 3, is said of a book and its places. That the promises say so is proved in the crate `demands`.
 use mathlib.Core.Logic.{_⊎_, _↔_}
 use mathlib.Core.Path.{_≡_}
 use Prim.Native.Nat.{ℕ, suc, _≤_}
@@ -24,7 +24,8 @@ pub record Settled {Made : Type 0} (accepts : Made → Type 0) (refuses : Refusa
 -- What a call does with it, whatever its answer: it gives one exactly if the input is accepted and nothing else is amiss (`fine`:
 -- the room is long enough, the asked statement is there, the turns are few); the refusal of a refused input is that input's;
 -- and a refusal leaves the rooms as found.
-pub record Answers {Rooms : Type 0} (fine : Type 0) (refuses : Refusal → Type 0) (promise : Answer → Rooms → Type 0) (rooms : Rooms) : Type 0 where
+pub record Answers {Rooms : Type 0} (fine : Type 0) (refuses : Refusal → Type 0) (promise : Answer → Rooms → Type 0)
+    (rooms : Rooms) : Type 0 where
   pub gives : (a : Answer) (after : Rooms) → promise a after → ((n : ℕ) × (a ≡ Given n)) ↔ fine
   pub refusal : (a : Answer) (after : Rooms) → promise a after → (r : Refusal) → refuses r → a ≡ Refused r
   pub untouched : (r : Refusal) (after : Rooms) → promise (Refused r) after → after ≡ rooms
@@ -39,8 +40,8 @@ pub record LabelSays (B : Book) (x label : ℕ) : Type 0 where
   pub falls-finishes : (label ≡ 2) ↔ ((F : Book) → Finish B F → Falls F x)
   pub stands-finishes : (label ≡ 1) ↔ ((F : Book) → Finish B F → Stands F x)
 
--- What a length written for x says. "Its length is the least number of turns that suffices for the winner." "One that has a length
--- has no greater length in any finish."
+-- What a length written for x says. "Its length is the least number of turns that suffices for the winner." "One that has a
+-- length has no greater length in any finish."
 pub record LengthSays (B : Book) (x length : ℕ) : Type 0 where
   pub falls : Falls B x → Least (λ n. FirstWins B n x) length
   pub stands : Stands B x → Least (λ n. SecondWins B n x) length

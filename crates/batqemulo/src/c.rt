@@ -26,7 +26,8 @@ pub extern "C" fn batqemulo_pairs_labels(
     targets: &[u32],
     labels: &mut [u8],
 ) -> CAnswer
-    ensures { λ c. ⌜ InC (λ a. PairsLabels (now (marks .entry)) (now (objectors .entry)) (now (targets .entry)) (now (labels .entry)) a (now (labels .exit))) c ⌝ }
+    ensures { λ c. ⌜ InC (λ a. PairsLabels (now (marks .entry)) (now (objectors .entry)) (now (targets .entry))
+        (now (labels .entry)) a (now (labels .exit))) c ⌝ }
 {
     in_c(on_lists::pairs_labels(marks, objectors, targets, labels))
 }
@@ -39,7 +40,8 @@ pub extern "C" fn batqemulo_pairs_lengths(
     targets: &[u32],
     lengths: &mut [u16],
 ) -> CAnswer
-    ensures { λ c. ⌜ InC (λ a. PairsLengths (now (marks .entry)) (now (objectors .entry)) (now (targets .entry)) (now (lengths .entry)) a (now (lengths .exit))) c ⌝ }
+    ensures { λ c. ⌜ InC (λ a. PairsLengths (now (marks .entry)) (now (objectors .entry)) (now (targets .entry))
+        (now (lengths .entry)) a (now (lengths .exit))) c ⌝ }
 {
     in_c(on_lists::pairs_lengths(marks, objectors, targets, lengths))
 }
@@ -53,7 +55,8 @@ pub extern "C" fn batqemulo_pairs_kinds(
     kinds: &mut [u8],
     lengths: &mut [u16],
 ) -> CAnswer
-    ensures { λ c. ⌜ InC (λ a. PairsKinds (now (marks .entry)) (now (objectors .entry)) (now (targets .entry)) (now (kinds .entry), now (lengths .entry)) a (now (kinds .exit), now (lengths .exit))) c ⌝ }
+    ensures { λ c. ⌜ InC (λ a. PairsKinds (now (marks .entry)) (now (objectors .entry)) (now (targets .entry))
+        (now (kinds .entry), now (lengths .entry)) a (now (kinds .exit), now (lengths .exit))) c ⌝ }
 {
     in_c(on_lists::pairs_kinds(marks, objectors, targets, kinds, lengths))
 }
@@ -66,7 +69,8 @@ pub extern "C" fn batqemulo_moves_labels(
     to: &[u32],
     labels: &mut [u8],
 ) -> CAnswer
-    ensures { λ c. ⌜ InC (λ a. MovesLabels (now (marks .entry)) (now (from .entry)) (now (to .entry)) (now (labels .entry)) a (now (labels .exit))) c ⌝ }
+    ensures { λ c. ⌜ InC (λ a. MovesLabels (now (marks .entry)) (now (from .entry)) (now (to .entry)) (now (labels .entry)) a
+        (now (labels .exit))) c ⌝ }
 {
     in_c(on_lists::moves_labels(marks, from, to, labels))
 }
@@ -79,7 +83,8 @@ pub extern "C" fn batqemulo_moves_lengths(
     to: &[u32],
     lengths: &mut [u16],
 ) -> CAnswer
-    ensures { λ c. ⌜ InC (λ a. MovesLengths (now (marks .entry)) (now (from .entry)) (now (to .entry)) (now (lengths .entry)) a (now (lengths .exit))) c ⌝ }
+    ensures { λ c. ⌜ InC (λ a. MovesLengths (now (marks .entry)) (now (from .entry)) (now (to .entry)) (now (lengths .entry)) a
+        (now (lengths .exit))) c ⌝ }
 {
     in_c(on_lists::moves_lengths(marks, from, to, lengths))
 }
@@ -117,7 +122,8 @@ pub extern "C" fn batqemulo_pairs_line(
     place: u32,
     line: &mut [u32],
 ) -> CAnswer
-    ensures { λ c. ⌜ InC (λ a. PairsLine (now (marks .entry)) (now (objectors .entry)) (now (targets .entry)) place (now (line .entry)) a (now (line .exit))) c ⌝ }
+    ensures { λ c. ⌜ InC (λ a. PairsLine (now (marks .entry)) (now (objectors .entry)) (now (targets .entry)) place
+        (now (line .entry)) a (now (line .exit))) c ⌝ }
 {
     in_c(on_lists::pairs_line(marks, objectors, targets, place, line))
 }

@@ -11,7 +11,8 @@ pub extern "C" fn bench_solver_label(
     labels: &mut [u8],
     lengths: &mut [u16],
 ) -> u32
-    ensures { λ r. ⌜ (r ≡ 1 → Solved (now (marks .entry)) (now (objectors .entry)) (now (targets .entry)) (now (labels .entry)) (now (lengths .entry)) (now (labels .exit)) (now (lengths .exit))) ⌝ }
+    ensures { λ r. ⌜ (r ≡ 1 → Solved (now (marks .entry)) (now (objectors .entry)) (now (targets .entry)) (now (labels .entry))
+        (now (lengths .entry)) (now (labels .exit)) (now (lengths .exit))) ⌝ }
 {
     if objectors.len() != targets.len() {
         return 0;

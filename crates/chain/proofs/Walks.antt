@@ -32,7 +32,8 @@ module _ (places head next : List ℕ) (ch : Chained places (length places) head
       where
         last : (e : ℕ) → e < length places → getD places e 0 ≡ x → d ≤ e → Dec (e ≡ c - 1) → ¬ (c ≤ e) → P e
         last e h o l (yes q) k = rw q here
-        last e h o l (no q) k = absurd (omega (arith, ch .next-last (c - 1) e (walk-entry .0) (omega arith) (o ∙ sym (walk-entry .1))))
+        last e h o l (no q) k =
+            absurd (omega (arith, ch .next-last (c - 1) e (walk-entry .0) (omega arith) (o ∙ sym (walk-entry .1))))
 
         go : (e : ℕ) → e < length places → getD places e 0 ≡ x → d ≤ e → Dec (c ≤ e) → P e
         go e h o l (yes k) = w .seen e h o k

@@ -39,7 +39,8 @@ use Rattle.demands.proofs.Says.{label-says, length-says, kind-says}
 pub text-settled : (s : List ℕ) → Settled (Accepts s) (reads.Refuses s)
 text-settled s = record { either = settled.settled s; not-both = text.not-both s; one-refusal = text.refuses-once s }
 
-pub lists-settled : (marks objectors targets : List ℕ) → Settled {Made = Unit {0}} (λ m. Lists marks objectors targets) (Refuses marks objectors targets)
+pub lists-settled : (marks objectors targets : List ℕ) → Settled {Made = Unit {0}} (λ m. Lists marks objectors targets)
+    (Refuses marks objectors targets)
 lists-settled marks objectors targets = record {
   either = ⊎-elim (λ l. inl (tt, l)) inr (pairs.settled marks objectors targets);
   not-both = λ m r l. pairs.not-both marks objectors targets l r;
@@ -47,8 +48,11 @@ lists-settled marks objectors targets = record {
 }
 
 -- What a call does with its input, from its promise's being unique: generic over promises of the form that all calls have.
-module _ {Rooms : Type 0} (refuses : Refusal → Type 0) (gives : ℕ → Rooms → Type 0) (first : Refusal → Type 0) (fine : Type 0) (rooms : Rooms) (unique : (a a′ : Answer) (after after′ : Rooms) → Promised refuses gives rooms a after → Promised refuses gives rooms a′ after′ → a ≡ a′) where
-  answers : ((r : Refusal) → first r → refuses r) → ((r : Refusal) → refuses r → fine → ⊥) → ((n : ℕ) (after : Rooms) → gives n after → fine) → Answers fine first (Promised refuses gives rooms) rooms
+module _ {Rooms : Type 0} (refuses : Refusal → Type 0) (gives : ℕ → Rooms → Type 0) (first : Refusal → Type 0) (fine : Type 0)
+    (rooms : Rooms) (unique : (a a′ : Answer) (after after′ : Rooms) → Promised refuses gives rooms a after
+    → Promised refuses gives rooms a′ after′ → a ≡ a′) where
+  answers : ((r : Refusal) → first r → refuses r) → ((r : Refusal) → refuses r → fine → ⊥)
+      → ((n : ℕ) (after : Rooms) → gives n after → fine) → Answers fine first (Promised refuses gives rooms) rooms
   answers due amiss well = record {
     gives = λ a after p. (yes a after p, no a after p);
     refusal = λ a after p r f. unique a (Refused r) after rooms p (due r f, refl);
@@ -65,52 +69,126 @@ module _ {Rooms : Type 0} (refuses : Refusal → Type 0) (gives : ℕ → Rooms 
 
 module _ (marks objectors targets : List ℕ) where
   -- nothing is amiss where the lists are accepted and nothing is refused later
-  accepted : (later : Refusal → Type 0) (r : Refusal) → ListsRefuse marks objectors targets later r → Lists marks objectors targets → ¬ later r → ⊥
+  accepted : (later : Refusal → Type 0) (r : Refusal) → ListsRefuse marks objectors targets later r
+      → Lists marks objectors targets → ¬ later r → ⊥
   accepted later r (inl p) l n = pairs.not-both marks objectors targets l r p
   accepted later r (inr p) l n = n (p .1)
 
-  pub pairs-labels-answers : (room : List ℕ) → Answers (Lists marks objectors targets × (length marks ≤ length room)) (Refuses marks objectors targets) (PairsLabels marks objectors targets room) room
-  pairs-labels-answers room = answers _ _ (Refuses marks objectors targets) (Lists marks objectors targets × (length marks ≤ length room)) room (λ a a′ after after′ p q. unique-pairs-labels marks objectors targets room a a′ after after′ p q .0) (λ r. inl) (λ r p f. accepted (Short (length room < length marks)) r p (f .0) (λ s. omega (arith, s .0, f .1))) (λ n after g. (g .0, omega (arith, g .1, g .2 .fits)))
+  pub pairs-labels-answers : (room : List ℕ) → Answers (Lists marks objectors targets × (length marks ≤ length room))
+      (Refuses marks objectors targets) (PairsLabels marks objectors targets room) room
+  pairs-labels-answers room =
+      answers _ _ (Refuses marks objectors targets) (Lists marks objectors targets × (length marks ≤ length room)) room
+      (λ a a′ after after′ p q. unique-pairs-labels marks objectors targets room a a′ after after′ p q .0) (λ r. inl)
+      (λ r p f. accepted (Short (length room < length marks)) r p (f .0) (λ s. omega (arith, s .0, f .1)))
+      (λ n after g. (g .0, omega (arith, g .1, g .2 .fits)))
 
-  pub pairs-lengths-answers : (room : List ℕ) → Answers (Lists marks objectors targets × (length marks ≤ length room)) (Refuses marks objectors targets) (PairsLengths marks objectors targets room) room
-  pairs-lengths-answers room = answers _ _ (Refuses marks objectors targets) (Lists marks objectors targets × (length marks ≤ length room)) room (λ a a′ after after′ p q. unique-pairs-lengths marks objectors targets room a a′ after after′ p q .0) (λ r. inl) (λ r p f. accepted (Short (length room < length marks)) r p (f .0) (λ s. omega (arith, s .0, f .1))) (λ n after g. (g .0, omega (arith, g .1, g .2 .fits)))
+  pub pairs-lengths-answers : (room : List ℕ) → Answers (Lists marks objectors targets × (length marks ≤ length room))
+      (Refuses marks objectors targets) (PairsLengths marks objectors targets room) room
+  pairs-lengths-answers room =
+      answers _ _ (Refuses marks objectors targets) (Lists marks objectors targets × (length marks ≤ length room)) room
+      (λ a a′ after after′ p q. unique-pairs-lengths marks objectors targets room a a′ after after′ p q .0) (λ r. inl)
+      (λ r p f. accepted (Short (length room < length marks)) r p (f .0) (λ s. omega (arith, s .0, f .1)))
+      (λ n after g. (g .0, omega (arith, g .1, g .2 .fits)))
 
-  pub pairs-kinds-answers : (rooms : List ℕ × List ℕ) → Answers (Lists marks objectors targets × (length objectors ≤ length (rooms .0)) × (length objectors ≤ length (rooms .1))) (Refuses marks objectors targets) (PairsKinds marks objectors targets rooms) rooms
-  pairs-kinds-answers rooms = answers _ _ (Refuses marks objectors targets) (Lists marks objectors targets × (length objectors ≤ length (rooms .0)) × (length objectors ≤ length (rooms .1))) rooms (λ a a′ after after′ p q. unique-pairs-kinds marks objectors targets rooms a a′ after after′ p q .0) (λ r. inl) (λ r p f. accepted (Short (KindsShort objectors rooms)) r p (f .0) (λ s. ⊎-elim (λ h. omega (arith, h, f .1)) (λ h. omega (arith, h, f .2)) (s .0))) (λ n after g. (g .0, omega (arith, g .1, g .2 .fits), omega (arith, g .1, g .3 .fits)))
+  pub pairs-kinds-answers : (rooms : List ℕ × List ℕ) → Answers
+      (Lists marks objectors targets × (length objectors ≤ length (rooms .0)) × (length objectors ≤ length (rooms .1)))
+      (Refuses marks objectors targets) (PairsKinds marks objectors targets rooms) rooms
+  pairs-kinds-answers rooms =
+      answers _ _ (Refuses marks objectors targets) (Lists marks objectors targets × (length objectors ≤ length (rooms .0))
+      × (length objectors ≤ length (rooms .1))) rooms (λ a a′ after after′ p q. unique-pairs-kinds marks objectors targets
+      rooms a a′ after after′ p q .0) (λ r. inl) (λ r p f. accepted (Short (KindsShort objectors rooms)) r p (f .0)
+      (λ s. ⊎-elim (λ h. omega (arith, h, f .1)) (λ h. omega (arith, h, f .2)) (s .0)))
+      (λ n after g. (g .0, omega (arith, g .1, g .2 .fits), omega (arith, g .1, g .3 .fits)))
 
-  pub pairs-line-answers : (place : ℕ) (room : List ℕ) → Answers (Lists marks objectors targets × (place < length marks) × ((l : List ℕ) → Line (bookOf marks objectors targets) place l → length l ≤ length room)) (Refuses marks objectors targets) (PairsLine marks objectors targets place room) room
-  pairs-line-answers place room = answers _ _ (Refuses marks objectors targets) (Lists marks objectors targets × (place < length marks) × ((l : List ℕ) → Line (bookOf marks objectors targets) place l → length l ≤ length room)) room (λ a a′ after after′ p q. unique-pairs-line marks objectors targets place room a a′ after after′ p q .0) (λ r. inl) (λ r p f. accepted (Asks (place < length marks) 0 (lists.LineShort marks objectors targets place room)) r p (f .0) (λ s. asks-none (place < length marks) 0 (lists.LineShort marks objectors targets place room) r s (f .1) (omega arith) (λ t. omega (arith, t .2, f .2 (t .0) (t .1))))) (λ n after (l, h, (k, is, w)). (l, h, λ k′ is′. omega (arith, w .1, ap length (line-unique (bookOf marks objectors targets) is′ is))))
+  pub pairs-line-answers : (place : ℕ) (room : List ℕ) → Answers
+      (Lists marks objectors targets × (place < length marks) × ((l : List ℕ) → Line (bookOf marks objectors targets) place l
+      → length l ≤ length room)) (Refuses marks objectors targets) (PairsLine marks objectors targets place room) room
+  pairs-line-answers place room =
+      answers _ _ (Refuses marks objectors targets) (Lists marks objectors targets × (place < length marks)
+      × ((l : List ℕ) → Line (bookOf marks objectors targets) place l → length l ≤ length room)) room
+      (λ a a′ after after′ p q. unique-pairs-line marks objectors targets place room a a′ after after′ p q .0) (λ r. inl)
+      (λ r p f. accepted (Asks (place < length marks) 0 (lists.LineShort marks objectors targets place room)) r p (f .0)
+      (λ s. asks-none (place < length marks) 0 (lists.LineShort marks objectors targets place room) r s (f .1) (omega arith)
+      (λ t. omega (arith, t .2, f .2 (t .0) (t .1))))) (λ n after (l, h, (k, is, w)).
+      (l, h, λ k′ is′. omega (arith, w .1, ap length (line-unique (bookOf marks objectors targets) is′ is))))
 
-  pub pairs-exercise-answers : (place turns : ℕ) → Answers {Rooms = Unit {0}} (Lists marks objectors targets × (place < length marks) × (turns ≤ 6)) (Refuses marks objectors targets) (λ a after. PairsExercise marks objectors targets place turns a) tt
+  pub pairs-exercise-answers : (place turns : ℕ) → Answers {Rooms = Unit {0}}
+      (Lists marks objectors targets × (place < length marks) × (turns ≤ 6)) (Refuses marks objectors targets)
+      (λ a after. PairsExercise marks objectors targets place turns a) tt
   pairs-exercise-answers place turns = record {
     gives = λ a after p. whole .gives a tt p;
     refusal = λ a after p. whole .refusal a tt p;
     untouched = λ r after p. refl;
   }
     where
-      whole : Answers {Rooms = Unit {0}} (Lists marks objectors targets × (place < length marks) × (turns ≤ 6)) (Refuses marks objectors targets) (Promised (ListsRefuse marks objectors targets (Asks (place < length marks) turns ⊥)) (ExerciseGiven marks objectors targets place turns) tt) tt
-      whole = answers (ListsRefuse marks objectors targets (Asks (place < length marks) turns ⊥)) (ExerciseGiven marks objectors targets place turns) (Refuses marks objectors targets) (Lists marks objectors targets × (place < length marks) × (turns ≤ 6)) tt (λ a a′ after after′ p q. unique-pairs-exercise marks objectors targets place turns a a′ p q) (λ r. inl) (λ r p f. accepted (Asks (place < length marks) turns ⊥) r p (f .0) (λ s. asks-none (place < length marks) turns ⊥ r s (f .1) (f .2) (λ z. z))) (λ n after g. (g .0, g .1, g .2))
+      whole : Answers {Rooms = Unit {0}} (Lists marks objectors targets × (place < length marks) × (turns ≤ 6))
+          (Refuses marks objectors targets) (Promised (ListsRefuse marks objectors targets (Asks (place < length marks) turns ⊥))
+          (ExerciseGiven marks objectors targets place turns) tt) tt
+      whole =
+          answers (ListsRefuse marks objectors targets (Asks (place < length marks) turns ⊥))
+          (ExerciseGiven marks objectors targets place turns) (Refuses marks objectors targets)
+          (Lists marks objectors targets × (place < length marks) × (turns ≤ 6)) tt
+          (λ a a′ after after′ p q. unique-pairs-exercise marks objectors targets place turns a a′ p q) (λ r. inl)
+          (λ r p f. accepted (Asks (place < length marks) turns ⊥) r p (f .0)
+          (λ s. asks-none (place < length marks) turns ⊥ r s (f .1) (f .2) (λ z. z))) (λ n after g. (g .0, g .1, g .2))
 
 module _ (s : List ℕ) where
-  pub text-labels-answers : (room : List ℕ) → Answers ((R : Register) × Accepts s R × (length (R .statements) ≤ length room)) (reads.Refuses s) (TextLabels s room) room
-  text-labels-answers room = answers _ _ (reads.Refuses s) ((R : Register) × Accepts s R × (length (R .statements) ≤ length room)) room (λ a a′ after after′ p q. unique-text-labels s room a a′ after after′ p q .0) (λ r. inl) (λ r p f. text-apart s (λ R. Short (length room < length (R .statements))) r (f .0) p (f .1) (λ h. omega (arith, h .0, f .2))) (λ n after g. (g .0, g .1, omega (arith, g .2, g .3 .fits)))
+  pub text-labels-answers : (room : List ℕ) → Answers ((R : Register) × Accepts s R × (length (R .statements) ≤ length room))
+      (reads.Refuses s) (TextLabels s room) room
+  text-labels-answers room =
+      answers _ _ (reads.Refuses s) ((R : Register) × Accepts s R × (length (R .statements) ≤ length room)) room
+      (λ a a′ after after′ p q. unique-text-labels s room a a′ after after′ p q .0) (λ r. inl)
+      (λ r p f. text-apart s (λ R. Short (length room < length (R .statements))) r (f .0) p (f .1)
+      (λ h. omega (arith, h .0, f .2))) (λ n after g. (g .0, g .1, omega (arith, g .2, g .3 .fits)))
 
-  pub text-lengths-answers : (room : List ℕ) → Answers ((R : Register) × Accepts s R × (length (R .statements) ≤ length room)) (reads.Refuses s) (TextLengths s room) room
-  text-lengths-answers room = answers _ _ (reads.Refuses s) ((R : Register) × Accepts s R × (length (R .statements) ≤ length room)) room (λ a a′ after after′ p q. unique-text-lengths s room a a′ after after′ p q .0) (λ r. inl) (λ r p f. text-apart s (λ R. Short (length room < length (R .statements))) r (f .0) p (f .1) (λ h. omega (arith, h .0, f .2))) (λ n after g. (g .0, g .1, omega (arith, g .2, g .3 .fits)))
+  pub text-lengths-answers : (room : List ℕ) → Answers ((R : Register) × Accepts s R × (length (R .statements) ≤ length room))
+      (reads.Refuses s) (TextLengths s room) room
+  text-lengths-answers room =
+      answers _ _ (reads.Refuses s) ((R : Register) × Accepts s R × (length (R .statements) ≤ length room)) room
+      (λ a a′ after after′ p q. unique-text-lengths s room a a′ after after′ p q .0) (λ r. inl)
+      (λ r p f. text-apart s (λ R. Short (length room < length (R .statements))) r (f .0) p (f .1)
+      (λ h. omega (arith, h .0, f .2))) (λ n after g. (g .0, g .1, omega (arith, g .2, g .3 .fits)))
 
-  pub text-listing-answers : (room : List ℕ) → Answers ((R : Register) × Accepts s R × ((l : List ℕ) → IsListing R l → length l ≤ length room)) (reads.Refuses s) (TextListing s room) room
-  text-listing-answers room = answers _ _ (reads.Refuses s) ((R : Register) × Accepts s R × ((l : List ℕ) → IsListing R l → length l ≤ length room)) room (λ a a′ after after′ p q. unique-text-listing s room a a′ after after′ p q .0) (λ r. inl) (λ r p f. text-apart s (λ R. Short (ListingShort room R)) r (f .0) p (f .1) (λ h. omega (arith, h .0 .2, f .2 (h .0 .0) (h .0 .1)))) (λ n after (R, a, (l, is, w)). (R, a, λ k i. omega (arith, w .1, ap length (listing-once R k l i is))))
+  pub text-listing-answers : (room : List ℕ) → Answers ((R : Register) × Accepts s R
+      × ((l : List ℕ) → IsListing R l → length l ≤ length room)) (reads.Refuses s) (TextListing s room) room
+  text-listing-answers room =
+      answers _ _ (reads.Refuses s) ((R : Register) × Accepts s R × ((l : List ℕ) → IsListing R l → length l ≤ length room)) room
+      (λ a a′ after after′ p q. unique-text-listing s room a a′ after after′ p q .0) (λ r. inl)
+      (λ r p f. text-apart s (λ R. Short (ListingShort room R)) r (f .0) p (f .1)
+      (λ h. omega (arith, h .0 .2, f .2 (h .0 .0) (h .0 .1))))
+      (λ n after (R, a, (l, is, w)). (R, a, λ k i. omega (arith, w .1, ap length (listing-once R k l i is))))
 
-  pub text-line-answers : (number : ℕ) (room : List ℕ) → Answers ((R : Register) × Accepts s R × Issued R number × ((x : ℕ) → Places R number x → (l : List ℕ) → Line (book R) x l → length l ≤ length room)) (reads.Refuses s) (TextLine s number room) room
-  text-line-answers number room = answers _ _ (reads.Refuses s) Fine room (λ a a′ after after′ p q. unique-text-line s number room a a′ after after′ p q .0) (λ r. inl) (λ r p f. text-apart s (λ R. LineRefused R number room) r (f .0) p (f .1) (λ h. asks-none (Issued (f .0) number) 0 (LineShort (f .0) number room) r h (f .2) (omega arith) (λ (x, q, (l, is, t)). omega (arith, t, f .3 x q l is)))) well
+  pub text-line-answers : (number : ℕ) (room : List ℕ) → Answers
+      ((R : Register) × Accepts s R × Issued R number × ((x : ℕ) → Places R number x → (l : List ℕ) → Line (book R) x l
+      → length l ≤ length room)) (reads.Refuses s) (TextLine s number room) room
+  text-line-answers number room =
+      answers _ _ (reads.Refuses s) Fine room (λ a a′ after after′ p q. unique-text-line s number room a a′ after after′ p q .0)
+      (λ r. inl) (λ r p f. text-apart s (λ R. LineRefused R number room) r (f .0) p (f .1)
+      (λ h. asks-none (Issued (f .0) number) 0 (LineShort (f .0) number room) r h (f .2) (omega arith)
+      (λ (x, q, (l, is, t)). omega (arith, t, f .3 x q l is)))) well
     where
       Fine : Type 0
-      Fine = (R : Register) × Accepts s R × Issued R number × ((x : ℕ) → Places R number x → (l : List ℕ) → Line (book R) x l → length l ≤ length room)
+      Fine =
+          (R : Register) × Accepts s R × Issued R number × ((x : ℕ) → Places R number x → (l : List ℕ) → Line (book R) x l
+          → length l ≤ length room)
 
       well : (n : ℕ) (after : List ℕ) → (R : Register) × Accepts s R × LineIn R number room n after → Fine
-      well n after (R, a, (x, q, (l, is, (c, f, e)))) = (R, a, (x, q .0, q .1), λ x′ q′ l′ is′. omega (arith, f, length-map l (λ i. getD (numbers R) i 0), ap length (line-unique (book R) (subst (λ i. Line (book R) i l′) (place-once R (a .valid) number x′ x q′ q) is′) is)))
+      well n after (R, a, (x, q, (l, is, (c, f, e)))) = (
+        R,
+        a,
+        (x, q .0, q .1),
+        λ x′ q′ l′ is′. omega (
+          arith,
+          f,
+          length-map l (λ i. getD (numbers R) i 0),
+          ap length (line-unique (book R) (subst (λ i. Line (book R) i l′) (place-once R (a .valid) number x′ x q′ q) is′)
+              is),
+        ),
+      )
 
-  pub text-exercise-answers : (number turns : ℕ) → Answers {Rooms = Unit {0}} ((R : Register) × Accepts s R × Issued R number × (turns ≤ 6)) (reads.Refuses s) (λ a after. TextExercise s number turns a) tt
+  pub text-exercise-answers : (number turns : ℕ) → Answers {Rooms = Unit {0}}
+      ((R : Register) × Accepts s R × Issued R number × (turns ≤ 6)) (reads.Refuses s) (λ a after. TextExercise s number turns a)
+      tt
   text-exercise-answers number turns = record {
     gives = λ a after p. whole .gives a tt p;
     refusal = λ a after p. whole .refusal a tt p;
@@ -127,19 +205,32 @@ module _ (s : List ℕ) where
       gives n after = (R : Register) × Accepts s R × ExerciseIn R number turns n after
 
       whole : Answers {Rooms = Unit {0}} Fine (reads.Refuses s) (Promised (TextRefuses s later) gives tt) tt
-      whole = answers (TextRefuses s later) gives (reads.Refuses s) Fine tt (λ a a′ after after′ p q. unique-text-exercise s number turns a a′ p q) (λ r. inl) (λ r p f. text-apart s later r (f .0) p (f .1) (λ h. asks-none (Issued (f .0) number) turns ⊥ r h (f .2) (f .3) (λ z. z))) (λ n after (R, a, (few, (x, q, is))). (R, a, (x, q .0, q .1), few))
+      whole =
+          answers (TextRefuses s later) gives (reads.Refuses s) Fine tt
+          (λ a a′ after after′ p q. unique-text-exercise s number turns a a′ p q) (λ r. inl)
+          (λ r p f. text-apart s later r (f .0) p (f .1) (λ h. asks-none (Issued (f .0) number) turns ⊥ r h (f .2) (f .3)
+          (λ z. z))) (λ n after (R, a, (few, (x, q, is))). (R, a, (x, q .0, q .1), few))
 
 -- Demands 2 and 3: what a written label, length and kind says.
 module _ (marks objectors targets : List ℕ) where
-  pub pairs-labels-say : (room : List ℕ) (n : ℕ) (after : List ℕ) → PairsLabels marks objectors targets room (Given n) after → (x : ℕ) → x < length marks → LabelSays (bookOf marks objectors targets) x (getD after x 0)
+  pub pairs-labels-say : (room : List ℕ) (n : ℕ) (after : List ℕ) → PairsLabels marks objectors targets room (Given n) after
+      → (x : ℕ) → x < length marks → LabelSays (bookOf marks objectors targets) x (getD after x 0)
   unfolding bookOf
-  pairs-labels-say room n after (l, e, b) x h = let (v, m, p) = b .each x (omega (arith, e)) in subst (LabelSays (bookOf marks objectors targets) x) (sym p) (label-says (bookOf marks objectors targets) x h v m)
+  pairs-labels-say room n after (l, e, b) x h =
+      let (v, m, p) = b .each x (omega (arith, e)) in subst (LabelSays (bookOf marks objectors targets) x) (sym p)
+      (label-says (bookOf marks objectors targets) x h v m)
 
-  pub pairs-lengths-say : (room : List ℕ) (n : ℕ) (after : List ℕ) → PairsLengths marks objectors targets room (Given n) after → (x : ℕ) → x < length marks → LengthSays (bookOf marks objectors targets) x (getD after x 0)
+  pub pairs-lengths-say : (room : List ℕ) (n : ℕ) (after : List ℕ) → PairsLengths marks objectors targets room (Given n) after
+      → (x : ℕ) → x < length marks → LengthSays (bookOf marks objectors targets) x (getD after x 0)
   unfolding bookOf
-  pairs-lengths-say room n after (l, e, b) x h = let (v, m, p) = b .each x (omega (arith, e)) in subst (LengthSays (bookOf marks objectors targets) x) (sym p) (length-says (bookOf marks objectors targets) x h v m)
+  pairs-lengths-say room n after (l, e, b) x h =
+      let (v, m, p) = b .each x (omega (arith, e)) in subst (LengthSays (bookOf marks objectors targets) x) (sym p)
+      (length-says (bookOf marks objectors targets) x h v m)
 
-  pub pairs-kinds-say : (rooms : List ℕ × List ℕ) (n : ℕ) (after : List ℕ × List ℕ) → PairsKinds marks objectors targets rooms (Given n) after → (k : ℕ) → k < length objectors → KindSays (bookOf marks objectors targets) (getD objectors k 0) (getD targets k 0) (getD (after .0) k 0) (getD (after .1) k 0)
+  pub pairs-kinds-say : (rooms : List ℕ × List ℕ) (n : ℕ) (after : List ℕ × List ℕ)
+      → PairsKinds marks objectors targets rooms (Given n) after → (k : ℕ) → k < length objectors
+      → KindSays (bookOf marks objectors targets) (getD objectors k 0) (getD targets k 0) (getD (after .0) k 0)
+      (getD (after .1) k 0)
   pairs-kinds-say rooms n after (l, e, b, c) k h =
       let (κ, o, p) = b .each k (omega (arith, e)) in
       let (κ′, o′, q) = c .each k (omega (arith, e)) in
@@ -149,42 +240,73 @@ module _ (marks objectors targets : List ℕ) where
       subst₂ (KindSays B y x) (sym p) (ap kindLength (kind-unique B y x κ κ′ o o′) ∙ sym q) (kind-says B y x κ o)
 
 -- and so of moves
-pub moves-labels-say : (marks from to room : List ℕ) (n : ℕ) (after : List ℕ) → MovesLabels marks from to room (Given n) after → (x : ℕ) → x < length marks → LabelSays (bookOf marks to from) x (getD after x 0)
+pub moves-labels-say : (marks from to room : List ℕ) (n : ℕ) (after : List ℕ) → MovesLabels marks from to room (Given n) after
+    → (x : ℕ) → x < length marks → LabelSays (bookOf marks to from) x (getD after x 0)
 moves-labels-say marks from to = pairs-labels-say marks to from
 
-pub moves-lengths-say : (marks from to room : List ℕ) (n : ℕ) (after : List ℕ) → MovesLengths marks from to room (Given n) after → (x : ℕ) → x < length marks → LengthSays (bookOf marks to from) x (getD after x 0)
+pub moves-lengths-say : (marks from to room : List ℕ) (n : ℕ) (after : List ℕ) → MovesLengths marks from to room (Given n) after
+    → (x : ℕ) → x < length marks → LengthSays (bookOf marks to from) x (getD after x 0)
 moves-lengths-say marks from to = pairs-lengths-say marks to from
 
 module _ (s : List ℕ) where
-  pub text-labels-say : (room : List ℕ) (n : ℕ) (after : List ℕ) → TextLabels s room (Given n) after → (R : Register) × Accepts s R × ((x : ℕ) → x < length (R .statements) → LabelSays (book R) x (getD after x 0))
+  pub text-labels-say : (room : List ℕ) (n : ℕ) (after : List ℕ) → TextLabels s room (Given n) after → (R : Register)
+      × Accepts s R × ((x : ℕ) → x < length (R .statements) → LabelSays (book R) x (getD after x 0))
   unfolding bookOf
-  text-labels-say room n after (R, a, e, b) = (R, a, λ x h. let (v, m, p) = b .each x (omega (arith, e)) in subst (LabelSays (book R) x) (sym p) (label-says (book R) x (omega (arith, marks-counted R (a .valid))) v m))
+  text-labels-say room n after (R, a, e, b) = (
+    R,
+    a,
+    λ x h. let (v, m, p) = b .each x (omega (arith, e)) in
+        subst (LabelSays (book R) x) (sym p) (label-says (book R) x (omega (arith, marks-counted R (a .valid))) v m),
+  )
 
-  pub text-lengths-say : (room : List ℕ) (n : ℕ) (after : List ℕ) → TextLengths s room (Given n) after → (R : Register) × Accepts s R × ((x : ℕ) → x < length (R .statements) → LengthSays (book R) x (getD after x 0))
+  pub text-lengths-say : (room : List ℕ) (n : ℕ) (after : List ℕ) → TextLengths s room (Given n) after → (R : Register)
+      × Accepts s R × ((x : ℕ) → x < length (R .statements) → LengthSays (book R) x (getD after x 0))
   unfolding bookOf
-  text-lengths-say room n after (R, a, e, b) = (R, a, λ x h. let (v, m, p) = b .each x (omega (arith, e)) in subst (LengthSays (book R) x) (sym p) (length-says (book R) x (omega (arith, marks-counted R (a .valid))) v m))
+  text-lengths-say room n after (R, a, e, b) = (
+    R,
+    a,
+    λ x h. let (v, m, p) = b .each x (omega (arith, e)) in
+        subst (LengthSays (book R) x) (sym p) (length-says (book R) x (omega (arith, marks-counted R (a .valid))) v m),
+  )
 
   -- the listing's rows: the words and lengths are those of verdicts and kinds that say so
-  pub listing-says : (R : Register) (l : List ℕ) → Accepts s R → (i : IsListing R l) → ((x : ℕ) → x < length (R .statements) → LabelSays (book R) x (labelNumber (getD (i .verdicts) x is-open)) × LengthSays (book R) x (lengthNumber (getD (i .verdicts) x is-open))) × ((k : ℕ) → k < length (R .objections) → KindSays (book R) (getD (objectorsOf R) k 0) (getD (targetsOf R) k 0) (kindNumber (getD (i .kinds) k Idle)) (kindLength (getD (i .kinds) k Idle)))
+  pub listing-says : (R : Register) (l : List ℕ) → Accepts s R → (i : IsListing R l)
+      → ((x : ℕ) → x < length (R .statements) → LabelSays (book R) x (labelNumber (getD (i .verdicts) x is-open))
+      × LengthSays (book R) x (lengthNumber (getD (i .verdicts) x is-open)))
+      × ((k : ℕ) → k < length (R .objections) → KindSays (book R) (getD (objectorsOf R) k 0) (getD (targetsOf R) k 0)
+      (kindNumber (getD (i .kinds) k Idle)) (kindLength (getD (i .kinds) k Idle)))
   unfolding bookOf
   listing-says R l a i = (
     λ x h.
-        let g : Listed (book R) x = omega (arith, marks-counted R (a .valid)) in
-        (label-says (book R) x g (getD (i .verdicts) x is-open) (i .means x h), length-says (book R) x g (getD (i .verdicts) x is-open) (i .means x h)),
+        let g : Listed (book R) x = omega (arith, marks-counted R (a .valid)) in (
+          label-says (book R) x g (getD (i .verdicts) x is-open) (i .means x h),
+          length-says (book R) x g (getD (i .verdicts) x is-open) (i .means x h),
+        ),
     λ k h. kind-says (book R) (getD (objectorsOf R) k 0) (getD (targetsOf R) k 0) (getD (i .kinds) k Idle) (i .of-kind k h),
   )
 
   -- "The program issues no numbers": those that a line has, and those of a listing's objections, are statement lines' numbers
-  pub line-issues-none : (number : ℕ) (room : List ℕ) (n : ℕ) (after : List ℕ) → TextLine s number room (Given n) after → (R : Register) × Accepts s R × ((k : ℕ) → k < n → Issued R (getD after k 0))
+  pub line-issues-none : (number : ℕ) (room : List ℕ) (n : ℕ) (after : List ℕ) → TextLine s number room (Given n) after
+      → (R : Register) × Accepts s R × ((k : ℕ) → k < n → Issued R (getD after k 0))
   unfolding bookOf
   line-issues-none number room n after (R, a, (x, q, (l, is, (c, f, e)))) = (
     R,
     a,
     λ k h.
         let j : k < length l = omega (arith, c, length-map l (λ i. getD (numbers R) i 0)) in
-        let g : getD after k 0 ≡ getD (numbers R) (getD l k 0) 0 = ap (λ (u : List ℕ). getD u k 0) e ∙ List·getD-append (byNumber R l) (drop (length (byNumber R l)) room) 0 k (omega (arith, length-map l (λ i. getD (numbers R) i 0))) ∙ mapped (λ i. getD (numbers R) i 0) l k j in
-        (getD l k 0, omega (arith, line-listed (book R) (omega (arith, q .0, numbers-counted R (a .valid))) is k j, numbers-counted R (a .valid)), sym g),
+        let g : getD after k 0 ≡ getD (numbers R) (getD l k 0) 0 = ap (λ (u : List ℕ). getD u k 0) e
+        ∙ List·getD-append (byNumber R l) (drop (length (byNumber R l)) room) 0 k
+        (omega (arith, length-map l (λ i. getD (numbers R) i 0))) ∙ mapped (λ i. getD (numbers R) i 0) l k j in (
+          getD l k 0,
+          omega (
+            arith,
+            line-listed (book R) (omega (arith, q .0, numbers-counted R (a .valid))) is k j,
+            numbers-counted R (a .valid),
+          ),
+          sym g,
+        ),
   )
 
-  pub listing-issues-none : (R : Register) → Accepts s R → (k : ℕ) → k < length (R .objections) → Issued R (getD (objectorNumbers R) k 0) × Issued R (getD (targetNumbers R) k 0)
+  pub listing-issues-none : (R : Register) → Accepts s R → (k : ℕ) → k < length (R .objections)
+      → Issued R (getD (objectorNumbers R) k 0) × Issued R (getD (targetNumbers R) k 0)
   listing-issues-none R a = a .valid .known

@@ -88,7 +88,8 @@ record Rows (k a b : ℕ) : Type 0 where
   pub standoff : (k ≡ 3) ↔ ((a ≡ 0) × (b ≡ 0))
 
 -- a row that is not idle, or is, and the other three, which are arithmetic
-busy : (k a b : ℕ) → (k ≡ 0 → ⊥) → ((a ≡ 2) × ((b ≡ 2) ⊎ (b ≡ 0)) → ⊥) → ((a ≡ 0) × (b ≡ 2) → ⊥) → (k ≡ 0) ↔ (((a ≡ 2) × ((b ≡ 2) ⊎ (b ≡ 0))) ⊎ ((a ≡ 0) × (b ≡ 2)))
+busy : (k a b : ℕ) → (k ≡ 0 → ⊥) → ((a ≡ 2) × ((b ≡ 2) ⊎ (b ≡ 0)) → ⊥) → ((a ≡ 0) × (b ≡ 2) → ⊥)
+    → (k ≡ 0) ↔ (((a ≡ 2) × ((b ≡ 2) ⊎ (b ≡ 0))) ⊎ ((a ≡ 0) × (b ≡ 2)))
 busy k a b n p q = (λ e. absurd (n e), λ s. absurd (⊎-elim p q s))
 
 rows : (v w : Verdict) (κ : Kind) → kindOf v w ≡ some κ → Rows (kindNumber κ) (labelNumber v) (labelNumber w)
@@ -98,12 +99,51 @@ rows v w κ e = go v w κ e
     at κ κ′ a b = same-kind (λ u. Rows (kindNumber u) a b) κ κ′
 
     go : (v w : Verdict) (κ : Kind) → kindOf v w ≡ some κ → Rows (kindNumber κ) (labelNumber v) (labelNumber w)
-    go (falls n) (stands m) κ e = at (Felling (suc m)) κ 2 1 e record { idle = busy 1 2 1 (λ z. omega (arith, z)) (λ p. ⊎-elim (λ q. omega (arith, q)) (λ q. omega (arith, q)) (p .1)) (λ p. omega (arith, p .0)); felling = (λ z. (refl, refl), λ p. refl); delaying = (λ z. absurd (omega (arith, z)), λ p. omega (arith, p .0)); standoff = (λ z. absurd (omega (arith, z)), λ p. omega (arith, p .0)) }
-    go (falls n) (falls m) κ e = at Idle κ 2 2 e record { idle = (λ z. inl (refl, inl refl), λ p. refl); felling = (λ z. absurd (omega (arith, z)), λ p. omega (arith, p .1)); delaying = (λ z. absurd (omega (arith, z)), λ p. omega (arith, p .0)); standoff = (λ z. absurd (omega (arith, z)), λ p. omega (arith, p .0)) }
-    go (falls n) is-open κ e = at Idle κ 2 0 e record { idle = (λ z. inl (refl, inr refl), λ p. refl); felling = (λ z. absurd (omega (arith, z)), λ p. omega (arith, p .1)); delaying = (λ z. absurd (omega (arith, z)), λ p. omega (arith, p .0)); standoff = (λ z. absurd (omega (arith, z)), λ p. omega (arith, p .0)) }
-    go (stands n) (falls m) κ e = at (Delaying (suc m)) κ 1 2 e record { idle = busy 2 1 2 (λ z. omega (arith, z)) (λ p. omega (arith, p .0)) (λ p. omega (arith, p .0)); felling = (λ z. absurd (omega (arith, z)), λ p. omega (arith, p .0)); delaying = (λ z. (refl, refl), λ p. refl); standoff = (λ z. absurd (omega (arith, z)), λ p. omega (arith, p .0)) }
-    go is-open (falls m) κ e = at Idle κ 0 2 e record { idle = (λ z. inr (refl, refl), λ p. refl); felling = (λ z. absurd (omega (arith, z)), λ p. omega (arith, p .0)); delaying = (λ z. absurd (omega (arith, z)), λ p. omega (arith, p .0)); standoff = (λ z. absurd (omega (arith, z)), λ p. omega (arith, p .1)) }
-    go is-open is-open κ e = at Standoff κ 0 0 e record { idle = busy 3 0 0 (λ z. omega (arith, z)) (λ p. omega (arith, p .0)) (λ p. omega (arith, p .1)); felling = (λ z. absurd (omega (arith, z)), λ p. omega (arith, p .0)); delaying = (λ z. absurd (omega (arith, z)), λ p. omega (arith, p .0)); standoff = (λ z. (refl, refl), λ p. refl) }
+    go (falls n) (stands m) κ e =
+        at (Felling (suc m)) κ 2 1 e record {
+          idle = busy 1 2 1 (λ z. omega (arith, z))
+              (λ p. ⊎-elim (λ q. omega (arith, q)) (λ q. omega (arith, q)) (p .1)) (λ p. omega (arith, p .0));
+          felling = (λ z. (refl, refl), λ p. refl);
+          delaying = (λ z. absurd (omega (arith, z)), λ p. omega (arith, p .0));
+          standoff = (λ z. absurd (omega (arith, z)), λ p. omega (arith, p .0));
+        }
+    go (falls n) (falls m) κ e =
+        at Idle κ 2 2 e record {
+          idle = (λ z. inl (refl, inl refl), λ p. refl);
+          felling = (λ z. absurd (omega (arith, z)), λ p. omega (arith, p .1));
+          delaying = (λ z. absurd (omega (arith, z)), λ p. omega (arith, p .0));
+          standoff = (λ z. absurd (omega (arith, z)), λ p. omega (arith, p .0));
+        }
+    go (falls n) is-open κ e =
+        at Idle κ 2 0 e record {
+          idle = (λ z. inl (refl, inr refl), λ p. refl);
+          felling = (λ z. absurd (omega (arith, z)), λ p. omega (arith, p .1));
+          delaying = (λ z. absurd (omega (arith, z)), λ p. omega (arith, p .0));
+          standoff = (λ z. absurd (omega (arith, z)), λ p. omega (arith, p .0));
+        }
+    go (stands n) (falls m) κ e =
+        at (Delaying (suc m)) κ 1 2 e record {
+          idle = busy 2 1 2 (λ z. omega (arith, z)) (λ p. omega (arith, p .0))
+              (λ p. omega (arith, p .0));
+          felling = (λ z. absurd (omega (arith, z)), λ p. omega (arith, p .0));
+          delaying = (λ z. (refl, refl), λ p. refl);
+          standoff = (λ z. absurd (omega (arith, z)), λ p. omega (arith, p .0));
+        }
+    go is-open (falls m) κ e =
+        at Idle κ 0 2 e record {
+          idle = (λ z. inr (refl, refl), λ p. refl);
+          felling = (λ z. absurd (omega (arith, z)), λ p. omega (arith, p .0));
+          delaying = (λ z. absurd (omega (arith, z)), λ p. omega (arith, p .0));
+          standoff = (λ z. absurd (omega (arith, z)), λ p. omega (arith, p .1));
+        }
+    go is-open is-open κ e =
+        at Standoff κ 0 0 e record {
+          idle = busy 3 0 0 (λ z. omega (arith, z)) (λ p. omega (arith, p .0))
+              (λ p. omega (arith, p .1));
+          felling = (λ z. absurd (omega (arith, z)), λ p. omega (arith, p .0));
+          delaying = (λ z. absurd (omega (arith, z)), λ p. omega (arith, p .0));
+          standoff = (λ z. (refl, refl), λ p. refl);
+        }
     go (stands n) (stands m) κ e = let z : _≡_ {A = ℕ} 0 1 = cc in absurd (omega arith)
     go (stands n) is-open κ e = let z : _≡_ {A = ℕ} 0 1 = cc in absurd (omega arith)
     go is-open (stands m) κ e = let z : _≡_ {A = ℕ} 0 1 = cc in absurd (omega arith)
@@ -114,18 +154,31 @@ record Lengths (B : Book) (y k length : ℕ) : Type 0 where
   pub delaying : k ≡ 2 → (m : ℕ) × Means B y (falls m) × (length ≡ suc m)
   pub none : (k ≡ 0) ⊎ (k ≡ 3) → length ≡ 65535
 
-lengths : (B : Book) (y : ℕ) (v w : Verdict) (κ : Kind) → kindOf v w ≡ some κ → Means B y w → Lengths B y (kindNumber κ) (kindLength κ)
+lengths : (B : Book) (y : ℕ) (v w : Verdict) (κ : Kind) → kindOf v w ≡ some κ → Means B y w
+    → Lengths B y (kindNumber κ) (kindLength κ)
 lengths B y v w κ e m = go v w κ e m
   where
-    at : (κ κ′ : Kind) → _≡_ {A = Option Kind} (some κ) (some κ′) → Lengths B y (kindNumber κ) (kindLength κ) → Lengths B y (kindNumber κ′) (kindLength κ′)
+    at : (κ κ′ : Kind) → _≡_ {A = Option Kind} (some κ) (some κ′) → Lengths B y (kindNumber κ) (kindLength κ)
+        → Lengths B y (kindNumber κ′) (kindLength κ′)
     at = same-kind (λ u. Lengths B y (kindNumber u) (kindLength u))
 
-    dash : (κ κ′ : Kind) → _≡_ {A = Option Kind} (some κ) (some κ′) → (kindNumber κ ≡ 1 → ⊥) → (kindNumber κ ≡ 2 → ⊥) → kindLength κ ≡ 65535 → Lengths B y (kindNumber κ′) (kindLength κ′)
+    dash : (κ κ′ : Kind) → _≡_ {A = Option Kind} (some κ) (some κ′) → (kindNumber κ ≡ 1 → ⊥) → (kindNumber κ ≡ 2 → ⊥)
+        → kindLength κ ≡ 65535 → Lengths B y (kindNumber κ′) (kindLength κ′)
     dash κ κ′ e p q d = at κ κ′ e record { felling = λ z. absurd (p z); delaying = λ z. absurd (q z); none = λ z. d }
 
     go : (v w : Verdict) (κ : Kind) → kindOf v w ≡ some κ → Means B y w → Lengths B y (kindNumber κ) (kindLength κ)
-    go (falls n) (stands k) κ e m = at (Felling (suc k)) κ e record { felling = λ z. (k, m, refl); delaying = λ z. absurd (omega (arith, z)); none = λ s. absurd (⊎-elim (λ z. omega (arith, z)) (λ z. omega (arith, z)) s) }
-    go (stands n) (falls k) κ e m = at (Delaying (suc k)) κ e record { felling = λ z. absurd (omega (arith, z)); delaying = λ z. (k, m, refl); none = λ s. absurd (⊎-elim (λ z. omega (arith, z)) (λ z. omega (arith, z)) s) }
+    go (falls n) (stands k) κ e m =
+        at (Felling (suc k)) κ e record {
+          felling = λ z. (k, m, refl);
+          delaying = λ z. absurd (omega (arith, z));
+          none = λ s. absurd (⊎-elim (λ z. omega (arith, z)) (λ z. omega (arith, z)) s);
+        }
+    go (stands n) (falls k) κ e m =
+        at (Delaying (suc k)) κ e record {
+          felling = λ z. absurd (omega (arith, z));
+          delaying = λ z. (k, m, refl);
+          none = λ s. absurd (⊎-elim (λ z. omega (arith, z)) (λ z. omega (arith, z)) s);
+        }
     go (falls n) (falls k) κ e m = dash Idle κ e (λ z. omega (arith, z)) (λ z. omega (arith, z)) refl
     go (falls n) is-open κ e m = dash Idle κ e (λ z. omega (arith, z)) (λ z. omega (arith, z)) refl
     go is-open (falls k) κ e m = dash Idle κ e (λ z. omega (arith, z)) (λ z. omega (arith, z)) refl

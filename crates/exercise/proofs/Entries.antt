@@ -52,13 +52,15 @@ module _ (marks objectors targets : List ℕ) where
         objects-entry marks objectors targets (getD objectors e 0) x .1 (h .order .objector e k, (e, (k, refl, o)))
 
     -- what holds of the objector of each entry of x holds of each objector of it
-    each : (P : ℕ → Type 0) (x : ℕ) → ((e : ℕ) → e < length targets → getD targets e 0 ≡ x → P (getD objectors e 0)) → (y : ℕ) → Objects B y x → P y
+    each : (P : ℕ → Type 0) (x : ℕ) → ((e : ℕ) → e < length targets → getD targets e 0 ≡ x → P (getD objectors e 0)) → (y : ℕ)
+        → Objects B y x → P y
     each P x f y o =
         let (l, (e, (k, a, b))) = objects-entry marks objectors targets y x .0 o in
         subst P a (f e (omega (arith, h .order .paired)) b)
 
     module _ (x e : ℕ) (l : e < length targets) (o : getD targets e 0 ≡ x) where
-      pub falls-some : (turns : ℕ) → (turns ≡ 0 → ⊥) → standsWithin B (turns - 1) (getD objectors e 0) ≡ true → true ≡ fallsWithin B turns x
+      pub falls-some : (turns : ℕ) → (turns ≡ 0 → ⊥) → standsWithin B (turns - 1) (getD objectors e 0) ≡ true
+          → true ≡ fallsWithin B turns x
       falls-some turns n s =
           subst (λ t. true ≡ fallsWithin B t x) (ahead turns n)
           (yes-of (fallsWithin B (suc (turns - 1)) x) (falls-by B (turns - 1) x (getD objectors e 0) (named x e l o) (passes s)))
@@ -67,15 +69,19 @@ module _ (marks objectors targets : List ℕ) where
       pub stands-late : (turns : ℕ) → turns ≡ 0 → false ≡ standsWithin B turns x
       stands-late turns z = rw z (no-of (standsWithin B 0 x) (λ s. stands-zero-at B x s (getD objectors e 0, named x e l o)))
 
-      pub stands-not : (turns : ℕ) → (turns ≡ 0 → ⊥) → fallsWithin B (turns - 1) (getD objectors e 0) ≡ false → false ≡ standsWithin B turns x
+      pub stands-not : (turns : ℕ) → (turns ≡ 0 → ⊥) → fallsWithin B (turns - 1) (getD objectors e 0) ≡ false
+          → false ≡ standsWithin B turns x
       stands-not turns n f =
           subst (λ t. false ≡ standsWithin B t x) (ahead turns n)
-          (no-of (standsWithin B (suc (turns - 1)) x) (λ s. fails f (stands-at B (turns - 1) x s (getD objectors e 0) (named x e l o))))
+          (no-of (standsWithin B (suc (turns - 1)) x) (λ s. fails f
+          (stands-at B (turns - 1) x s (getD objectors e 0) (named x e l o))))
 
-    pub falls-not : (x turns : ℕ) → (turns ≡ 0 → ⊥) → ((e : ℕ) → e < length targets → getD targets e 0 ≡ x → Weak turns e) → false ≡ fallsWithin B turns x
+    pub falls-not : (x turns : ℕ) → (turns ≡ 0 → ⊥) → ((e : ℕ) → e < length targets → getD targets e 0 ≡ x → Weak turns e)
+        → false ≡ fallsWithin B turns x
     falls-not x turns n f =
         subst (λ t. false ≡ fallsWithin B t x) (ahead turns n)
-        (no-of (fallsWithin B (suc (turns - 1)) x) (λ t. let (y, o, s) = falls-at B (turns - 1) x t in fails (each (λ z. standsWithin B (turns - 1) z ≡ false) x f y o) s))
+        (no-of (fallsWithin B (suc (turns - 1)) x) (λ t. let (y, o, s) = falls-at B (turns - 1) x t in
+        fails (each (λ z. standsWithin B (turns - 1) z ≡ false) x f y o) s))
 
     pub stands-unread : (x turns : ℕ) → x < length marks → (getD marks x 0 ≡ 0 → ⊥) → false ≡ standsWithin B turns x
     unfolding bookOf
@@ -87,11 +93,15 @@ module _ (marks objectors targets : List ℕ) where
     unfolding bookOf
     read x z = refute (eqb (getD marks x 0) 1) (λ u. omega (arith, eqb→eq (getD marks x 0) 1 u))
 
-    pub stands-all : (x turns : ℕ) → getD marks x 0 ≡ 0 → ((e : ℕ) → e < length targets → getD targets e 0 ≡ x → Beaten turns e) → true ≡ standsWithin B turns x
+    pub stands-all : (x turns : ℕ) → getD marks x 0 ≡ 0 → ((e : ℕ) → e < length targets → getD targets e 0 ≡ x → Beaten turns e)
+        → true ≡ standsWithin B turns x
     stands-all x turns z f = go (ℕ-discrete turns 0)
       where
         go : Dec (turns ≡ 0) → true ≡ standsWithin B turns x
-        go (yes n) = rw n (yes-of (standsWithin B 0 x) (stands-zero-by B x (read x z) (λ w. each (λ y. ⊥) x (λ e l o. f e l o .0 n) (w .0) (w .1))))
+        go (yes n) =
+            rw n (yes-of (standsWithin B 0 x) (stands-zero-by B x (read x z)
+            (λ w. each (λ y. ⊥) x (λ e l o. f e l o .0 n) (w .0) (w .1))))
         go (no n) =
             subst (λ t. true ≡ standsWithin B t x) (ahead turns n)
-            (yes-of (standsWithin B (suc (turns - 1)) x) (stands-by B (turns - 1) x (read x z) (λ y o. passes (each (λ v. fallsWithin B (turns - 1) v ≡ true) x (λ e l o. f e l o .1) y o))))
+            (yes-of (standsWithin B (suc (turns - 1)) x) (stands-by B (turns - 1) x (read x z)
+            (λ y o. passes (each (λ v. fallsWithin B (turns - 1) v ≡ true) x (λ e l o. f e l o .1) y o))))

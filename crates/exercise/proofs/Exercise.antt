@@ -68,10 +68,15 @@ module _ (B : Book) (x turns : ℕ) where
   module _ (a : ℕ) (p : Answered B x turns a) where
     -- the answer is what the rules compute
     pub answered-rule : ((a ≡ 2) ↔ T (fallsWithin B turns x)) × ((a ≡ 1) ↔ T (standsWithin B turns x))
-    answered-rule =
-        ((λ e. falls-game B turns x .1 (p .falls .0 e), λ t. p .falls .1 (falls-game B turns x .0 t)), (λ e. stands-game B turns x .1 (p .stands .0 e), λ t. p .stands .1 (stands-game B turns x .0 t)))
+    answered-rule = (
+      (λ e. falls-game B turns x .1 (p .falls .0 e), λ t. p .falls .1 (falls-game B turns x .0 t)),
+      (λ e. stands-game B turns x .1 (p .stands .0 e), λ t. p .stands .1 (stands-game B turns x .0 t)),
+    )
 
     -- and it is the label, where the length is not above the turns
-    pub answered-label : ((a ≡ 2) ↔ ((n : ℕ) × (n ≤ turns) × Means B x (falls n))) × ((a ≡ 1) ↔ ((n : ℕ) × (n ≤ turns) × Means B x (stands n)))
-    answered-label =
-        ((λ e. falls-within B turns x .0 (answered-rule .0 .0 e), λ w. answered-rule .0 .1 (falls-within B turns x .1 w)), (λ e. stands-within B turns x .0 (answered-rule .1 .0 e), λ w. answered-rule .1 .1 (stands-within B turns x .1 w)))
+    pub answered-label : ((a ≡ 2) ↔ ((n : ℕ) × (n ≤ turns) × Means B x (falls n)))
+        × ((a ≡ 1) ↔ ((n : ℕ) × (n ≤ turns) × Means B x (stands n)))
+    answered-label = (
+      (λ e. falls-within B turns x .0 (answered-rule .0 .0 e), λ w. answered-rule .0 .1 (falls-within B turns x .1 w)),
+      (λ e. stands-within B turns x .0 (answered-rule .1 .0 e), λ w. answered-rule .1 .1 (stands-within B turns x .1 w)),
+    )

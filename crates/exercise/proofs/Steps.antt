@@ -17,7 +17,8 @@ use Rattle.exercise.proofs.Table.{code, inside, believe, falls-put, sta
 said : (q : ℕ → Bool) (y z : ℕ) (r b : Bool) → y ≡ z → r ≡ q y → r ≡ b → q z ≡ b
 said q y z r b e a p = ap q (sym e) ∙ sym a ∙ p
 
-module _ {marks objectors targets head next : List ℕ} (x turns : ℕ) (asked : Chains marks objectors targets head next × (x < length marks) × (turns ≤ 6)) where
+module _ {marks objectors targets head next : List ℕ} (x turns : ℕ)
+    (asked : Chains marks objectors targets head next × (x < length marks) × (turns ≤ 6)) where
   abbrev B : Book
   B = bookOf marks objectors targets
 
@@ -45,7 +46,8 @@ module _ {marks objectors targets head next : List ℕ} (x turns : ℕ) (asked :
     pub falls-slot : turns * 1024 + x < length falls
     falls-slot = inside (fallsWithin B) falls (k .fell) turns x small (asked .2)
 
-    pub falls-believed : (b : Bool) → getD falls (turns * 1024 + x) 0 ≡ code b → (b ≡ fallsWithin B turns x) × Known B falls stands
+    pub falls-believed : (b : Bool) → getD falls (turns * 1024 + x) 0 ≡ code b → (b ≡ fallsWithin B turns x)
+        × Known B falls stands
     falls-believed b e = (sym (believe (fallsWithin B) falls (k .fell) turns x small b e), k)
 
     pub falls-at-once : turns ≡ 0 → (false ≡ fallsWithin B turns x) × Known B falls stands
@@ -56,23 +58,28 @@ module _ {marks objectors targets head next : List ℕ} (x turns : ℕ) (asked :
         here : (b : Bool) → r ≡ b → standsWithin B (turns - 1) (getD objectors (c - 1) 0) ≡ b
         here b = said (standsWithin B (turns - 1)) y (getD objectors (c - 1) 0) r b e a
 
-        pub falls-goes-on : r ≡ false → (d : ℕ) → d ≡ getD next (c - 1) 0 → Walk targets x (Weak marks objectors targets turns) d × Known B falls stands
-        falls-goes-on p d q = (walk-more targets head next (ch .chained) x (Weak marks objectors targets turns) c w n d q (here false p), k)
+        pub falls-goes-on : r ≡ false → (d : ℕ) → d ≡ getD next (c - 1) 0 → Walk targets x (Weak marks objectors targets turns) d
+            × Known B falls stands
+        falls-goes-on p d q =
+            (walk-more targets head next (ch .chained) x (Weak marks objectors targets turns) c w n d q (here false p), k)
 
         pub falls-found : r ≡ true → (true ≡ fallsWithin B turns x) × Known B (set falls (turns * 1024 + x) 2) stands
         falls-found p =
             let (l, o) = entry (Weak marks objectors targets turns) c w n in
-            falls-put B falls stands k turns x small (asked .2) true (falls-some marks objectors targets (ch .handed) x (c - 1) l o turns late (here true p))
+            falls-put B falls stands k turns x small (asked .2) true
+            (falls-some marks objectors targets (ch .handed) x (c - 1) l o turns late (here true p))
 
       pub falls-ends : c ≡ 0 → (false ≡ fallsWithin B turns x) × Known B (set falls (turns * 1024 + x) 1) stands
       falls-ends z =
           falls-put B falls stands k turns x small (asked .2) false
-          (falls-not marks objectors targets (ch .handed) x turns late (walk-ends targets head next (ch .chained) x (Weak marks objectors targets turns) c w z))
+          (falls-not marks objectors targets (ch .handed) x turns late
+          (walk-ends targets head next (ch .chained) x (Weak marks objectors targets turns) c w z))
 
     pub stands-slot : turns * 1024 + x < length stands
     stands-slot = inside (standsWithin B) stands (k .stood) turns x small (asked .2)
 
-    pub stands-believed : (b : Bool) → getD stands (turns * 1024 + x) 0 ≡ code b → (b ≡ standsWithin B turns x) × Known B falls stands
+    pub stands-believed : (b : Bool) → getD stands (turns * 1024 + x) 0 ≡ code b → (b ≡ standsWithin B turns x)
+        × Known B falls stands
     stands-believed b e = (sym (believe (standsWithin B) stands (k .stood) turns x small b e), k)
 
     pub stands-never : (getD marks x 0 ≡ 0 → ⊥) → (false ≡ standsWithin B turns x) × Known B falls stands
@@ -84,19 +91,25 @@ module _ {marks objectors targets head next : List ℕ} (x turns : ℕ) (asked :
           let (l, o) = entry (Beaten marks objectors targets turns) c w n in
           (stands-late marks objectors targets (ch .handed) x (c - 1) l o turns z, k)
 
-      module _ (n : c ≡ 0 → ⊥) (late : turns ≡ 0 → ⊥) (y : ℕ) (r : Bool) (e : y ≡ getD objectors (c - 1) 0) (a : r ≡ fallsWithin B (turns - 1) y) where
+      module _ (n : c ≡ 0 → ⊥) (late : turns ≡ 0 → ⊥) (y : ℕ) (r : Bool) (e : y ≡ getD objectors (c - 1) 0)
+          (a : r ≡ fallsWithin B (turns - 1) y) where
         there : (b : Bool) → r ≡ b → fallsWithin B (turns - 1) (getD objectors (c - 1) 0) ≡ b
         there b = said (fallsWithin B (turns - 1)) y (getD objectors (c - 1) 0) r b e a
 
-        pub stands-goes-on : r ≡ true → (d : ℕ) → d ≡ getD next (c - 1) 0 → Walk targets x (Beaten marks objectors targets turns) d × Known B falls stands
-        stands-goes-on p d q = (walk-more targets head next (ch .chained) x (Beaten marks objectors targets turns) c w n d q (late, there true p), k)
+        pub stands-goes-on : r ≡ true → (d : ℕ) → d ≡ getD next (c - 1) 0
+            → Walk targets x (Beaten marks objectors targets turns) d × Known B falls stands
+        stands-goes-on p d q =
+            (walk-more targets head next (ch .chained) x (Beaten marks objectors targets turns) c w n d q (late, there true p), k)
 
         pub stands-lost : r ≡ false → (false ≡ standsWithin B turns x) × Known B falls (set stands (turns * 1024 + x) 1)
         stands-lost p =
             let (l, o) = entry (Beaten marks objectors targets turns) c w n in
-            stands-put B falls stands k turns x small (asked .2) false (stands-not marks objectors targets (ch .handed) x (c - 1) l o turns late (there false p))
+            stands-put B falls stands k turns x small (asked .2) false
+            (stands-not marks objectors targets (ch .handed) x (c - 1) l o turns late (there false p))
 
-      pub stands-ends : getD marks x 0 ≡ 0 → c ≡ 0 → (true ≡ standsWithin B turns x) × Known B falls (set stands (turns * 1024 + x) 2)
+      pub stands-ends : getD marks x 0 ≡ 0 → c ≡ 0 → (true ≡ standsWithin B turns x)
+          × Known B falls (set stands (turns * 1024 + x) 2)
       stands-ends m z =
           stands-put B falls stands k turns x small (asked .2) true
-          (stands-all marks objectors targets (ch .handed) x turns m (walk-ends targets head next (ch .chained) x (Beaten marks objectors targets turns) c w z))
+          (stands-all marks objectors targets (ch .handed) x turns m
+          (walk-ends targets head next (ch .chained) x (Beaten marks objectors targets turns) c w z))

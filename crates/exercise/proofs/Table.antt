@@ -32,9 +32,11 @@ module _ (q : ℕ → ℕ → Bool) (table : List ℕ) (r : Right q table) where
     inside = omega (arith, r .room)
 
     -- after the store an entry is that of t and x, or it is as it was
-    after : (u y : ℕ) → y < 1024 → (b : Bool) → getD (set table (t * 1024 + x) (code (q t x))) (u * 1024 + y) 0 ≡ code b → q u y ≡ b
+    after : (u y : ℕ) → y < 1024 → (b : Bool) → getD (set table (t * 1024 + x) (code (q t x))) (u * 1024 + y) 0 ≡ code b
+        → q u y ≡ b
     after u y h b g =
-        ⊎-elim (λ a. own (a .0) (sym (a .1) ∙ g)) (λ a. believe u y h b (sym (a .1) ∙ g)) (stored table (t * 1024 + x) (code (q t x)) inside (u * 1024 + y))
+        ⊎-elim (λ a. own (a .0) (sym (a .1) ∙ g)) (λ a. believe u y h b (sym (a .1) ∙ g))
+        (stored table (t * 1024 + x) (code (q t x)) inside (u * 1024 + y))
       where
         own : u * 1024 + y ≡ t * 1024 + x → code (q t x) ≡ code b → q u y ≡ b
         own e c =

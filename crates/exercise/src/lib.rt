@@ -26,9 +26,12 @@ fn falls_within(
     falls: &mut [u8],
     stands: &mut [u8],
 ) -> bool
-    requires { ⌜ Chains (now marks) (now objectors) (now targets) (now head) (now next) × (x < length (now marks)) × (turns ≤ 6) ⌝ }
+    requires { ⌜ Chains (now marks) (now objectors) (now targets) (now head) (now next) × (x < length (now marks))
+        × (turns ≤ 6) ⌝ }
     requires { ⌜ Known (bookOf (now marks) (now objectors) (now targets)) (now falls) (now stands) ⌝ }
-    ensures { λ r. ⌜ (r ≡ fallsWithin (bookOf (now (marks .entry)) (now (objectors .entry)) (now (targets .entry))) turns x) × Known (bookOf (now (marks .entry)) (now (objectors .entry)) (now (targets .entry))) (now (falls .exit)) (now (stands .exit)) ⌝ }
+    ensures { λ r. ⌜ (r ≡ fallsWithin (bookOf (now (marks .entry)) (now (objectors .entry)) (now (targets .entry))) turns x)
+        × Known (bookOf (now (marks .entry)) (now (objectors .entry)) (now (targets .entry))) (now (falls .exit))
+        (now (stands .exit)) ⌝ }
 {
     if turns == 0 {
         return false;
@@ -77,9 +80,12 @@ fn stands_within(
     falls: &mut [u8],
     stands: &mut [u8],
 ) -> bool
-    requires { ⌜ Chains (now marks) (now objectors) (now targets) (now head) (now next) × (x < length (now marks)) × (turns ≤ 6) ⌝ }
+    requires { ⌜ Chains (now marks) (now objectors) (now targets) (now head) (now next) × (x < length (now marks))
+        × (turns ≤ 6) ⌝ }
     requires { ⌜ Known (bookOf (now marks) (now objectors) (now targets)) (now falls) (now stands) ⌝ }
-    ensures { λ r. ⌜ (r ≡ standsWithin (bookOf (now (marks .entry)) (now (objectors .entry)) (now (targets .entry))) turns x) × Known (bookOf (now (marks .entry)) (now (objectors .entry)) (now (targets .entry))) (now (falls .exit)) (now (stands .exit)) ⌝ }
+    ensures { λ r. ⌜ (r ≡ standsWithin (bookOf (now (marks .entry)) (now (objectors .entry)) (now (targets .entry))) turns x)
+        × Known (bookOf (now (marks .entry)) (now (objectors .entry)) (now (targets .entry))) (now (falls .exit))
+        (now (stands .exit)) ⌝ }
 {
     if marks[x] != 0 {
         return false;

@@ -35,7 +35,8 @@ module _ (B : Book) (v : ℕ → Verdict) where
           stands-zero-by B x r (λ w. let (k, f, d) = a (w .0) (w .1) in omega arith)
       sound-stands (suc N) (suc n) x h l e =
           let (r, a, c) = at x l (stands (suc n)) e in
-          stands-by B n x r (λ z o. let (k, f, d) = a z o in falls-mono B k n z (omega arith) (sound-falls N k z (omega arith) (o .0) f))
+          stands-by B n x r (λ z o. let (k, f, d) = a z o in falls-mono B k n z (omega arith)
+          (sound-falls N k z (omega arith) (o .0) f))
 
     mutual
       open-falls : (n : ℕ) (x : ℕ) → Listed B x → v x ≡ is-open → FallsWithin B n x → ⊥
@@ -62,18 +63,22 @@ module _ (B : Book) (v : ℕ → Verdict) where
     mutual
       least-falls : (m : ℕ) (n x : ℕ) → Listed B x → v x ≡ falls n → FallsWithin B m x → n ≤ m
       least-falls zero n x l e t = absurd (falls-zero B x t)
-      least-falls (suc m) n x l e t = let (y, o, s) = falls-at B m x t in go y o s (v y) refl (λ k d. least-stands m k y (o .0) d s)
+      least-falls (suc m) n x l e t =
+          let (y, o, s) = falls-at B m x t in go y o s (v y) refl (λ k d. least-stands m k y (o .0) d s)
         where
-          go : (y : ℕ) → Objects B y x → StandsWithin B m y → (w : Verdict) → v y ≡ w → ((k : ℕ) → v y ≡ stands k → k ≤ m) → n ≤ suc m
+          go : (y : ℕ) → Objects B y x → StandsWithin B m y → (w : Verdict) → v y ≡ w → ((k : ℕ) → v y ≡ stands k → k ≤ m)
+              → n ≤ suc m
           go y o s is-open d f = absurd (open-stands m y (o .0) d s)
           go y o s (falls k) d f = absurd (exclusive B k m y (sound-falls k k y (omega arith) (o .0) d) s)
           go y o s (stands k) d f = let (i, p, b, c) = at x l (falls n) e in omega (arith, c y k o d, f k d)
 
       least-stands : (m : ℕ) (n x : ℕ) → Listed B x → v x ≡ stands n → StandsWithin B m x → n ≤ m
       least-stands zero zero x l e s = omega arith
-      least-stands zero (suc n) x l e s = let (y, o, d) = at x l (stands (suc n)) e .2 n refl in absurd (stands-zero-at B x s (y, o))
+      least-stands zero (suc n) x l e s =
+          let (y, o, d) = at x l (stands (suc n)) e .2 n refl in absurd (stands-zero-at B x s (y, o))
       least-stands (suc m) zero x l e s = omega arith
-      least-stands (suc m) (suc n) x l e s = let (y, o, d) = at x l (stands (suc n)) e .2 n refl in omega (arith, least-falls m n y (o .0) d (stands-at B m x s y o))
+      least-stands (suc m) (suc n) x l e s =
+          let (y, o, d) = at x l (stands (suc n)) e .2 n refl in omega (arith, least-falls m n y (o .0) d (stands-at B m x s y o))
 
     ruled : (x : ℕ) → Listed B x → Ruled B x (v x)
     ruled x l = go (v x) refl
@@ -113,13 +118,19 @@ module _ (B : Book) (v : ℕ → Verdict) where
         (m, refl, (y, o, e ∙ ap stands g), λ z k o e. omega (arith, b (suc k) (falls-by B k x z o (stands-of k z (o .0) e))))
 
     longest : (m x : ℕ) → Ruled B x (stands (suc m)) → (y : ℕ) × Objects B y x × (v y ≡ falls m)
-    longest zero x (s, b) = absurd (omega (arith, b 0 (stands-zero-by B x (stands-read B 1 x s) (λ w. falls-zero B (w .0) (stands-at B 0 x s (w .0) (w .1))))))
+    longest zero x (s, b) =
+        absurd (omega (
+          arith,
+          b 0 (stands-zero-by B x (stands-read B 1 x s)
+              (λ w. falls-zero B (w .0) (stands-at B 0 x s (w .0) (w .1)))),
+        ))
     longest (suc m) x (s, b) =
         let (y, o, g) = unanswered B m x (stands-read B (suc (suc m)) x s) (λ t. omega (arith, b (suc m) t)) in
         let (k, e, h) = falls-label (suc m) y (o .0) (stands-at B (suc m) x s y o) in
         go y o g k e h
       where
-        go : (y : ℕ) → Objects B y x → T (not (fallsWithin B m y)) → (k : ℕ) → v y ≡ falls k → k ≤ suc m → (y : ℕ) × Objects B y x × (v y ≡ falls (suc m))
+        go : (y : ℕ) → Objects B y x → T (not (fallsWithin B m y)) → (k : ℕ) → v y ≡ falls k → k ≤ suc m → (y : ℕ) × Objects B y x
+            × (v y ≡ falls (suc m))
         go y o g k e h =
             let p : Ruled B y (falls k) = subst (λ w. Ruled B y w) e (ruled y (o .0)) in
             let d : k ≡ suc m = omega (arith, not-le k m (λ l. clash (fallsWithin B m y) (falls-mono B k m y l (p .0)) g)) in
@@ -136,14 +147,18 @@ module _ (B : Book) (v : ℕ → Verdict) where
     agree-open : (x : ℕ) → Ruled B x is-open → Fits B v x is-open
     agree-open x (f, s) = ((λ z k o e. f (suc k) (falls-by B k x z o (stands-of k z (o .0) e))), go (decide (B .unread x)))
       where
-        look : (y : ℕ) → Objects B y x → T (not (fallsWithin B (B .size - 1) y)) → (w : Verdict) → v y ≡ w → Ruled B y w → (y : ℕ) × Objects B y x × (v y ≡ is-open)
+        look : (y : ℕ) → Objects B y x → T (not (fallsWithin B (B .size - 1) y)) → (w : Verdict) → v y ≡ w → Ruled B y w → (y : ℕ)
+            × Objects B y x × (v y ≡ is-open)
         look y o g is-open e p = (y, o, e)
         look y o g (stands k) e p = absurd (f (suc k) (falls-by B k x y o (p .0)))
-        look y o g (falls k) e p = absurd (clash (fallsWithin B (B .size - 1) y) (falls-mono B k (B .size - 1) y (length-bound B y (o .0) (falls k) (ruled-means B y (falls k) p)) (p .0)) g)
+        look y o g (falls k) e p =
+            absurd (clash (fallsWithin B (B .size - 1) y) (falls-mono B k (B .size - 1) y
+            (length-bound B y (o .0) (falls k) (ruled-means B y (falls k) p)) (p .0)) g)
 
         go : T (B .unread x) ⊎ T (not (B .unread x)) → Unread B x ⊎ ((y : ℕ) × Objects B y x × (v y ≡ is-open))
         go (inl u) = inl u
-        go (inr r) = let (y, o, g) = unanswered B (B .size - 1) x r (s (suc (B .size - 1))) in inr (look y o g (v y) refl (ruled y (o .0)))
+        go (inr r) =
+            let (y, o, g) = unanswered B (B .size - 1) x r (s (suc (B .size - 1))) in inr (look y o g (v y) refl (ruled y (o .0)))
 
     agrees : Agrees B v
     agrees x l = go (v x) (ruled x l)

@@ -27,7 +27,8 @@ module _ (p q : ℕ → Bool) where
   count-mono zero f = omega arith
   count-mono (suc n) f = go (p n) (q n) (f n (omega arith)) (count-mono n (λ y h. f y (omega arith)))
     where
-      go : (a b : Bool) → (T a → T b) → count n p ≤ count n q → cond a (suc (count n p)) (count n p) ≤ cond b (suc (count n q)) (count n q)
+      go : (a b : Bool) → (T a → T b) → count n p ≤ count n q → cond a (suc (count n p)) (count n p) ≤ cond b (suc (count n q))
+          (count n q)
       go true true g h = omega arith
       go true false g h = absurd (g tt)
       go false true g h = omega arith
@@ -38,17 +39,21 @@ module _ (p q : ℕ → Bool) where
   count-strict zero x f h s t = absurd (not-suc-le-zero h)
   count-strict (suc n) x f h s t = pick (below-suc h) (λ l. count-strict n x (λ y k. f y (omega arith)) l s t)
     where
-      here : (a b : Bool) → T (not a) → T b → count n p ≤ count n q → cond a (suc (count n p)) (count n p) < cond b (suc (count n q)) (count n q)
+      here : (a b : Bool) → T (not a) → T b → count n p ≤ count n q
+          → cond a (suc (count n p)) (count n p) < cond b (suc (count n q)) (count n q)
       here true b s t l = absurd s
       here false true s t l = omega arith
       here false false s t l = absurd t
 
-      there : (a b : Bool) → (T a → T b) → count n p < count n q → cond a (suc (count n p)) (count n p) < cond b (suc (count n q)) (count n q)
+      there : (a b : Bool) → (T a → T b) → count n p < count n q
+          → cond a (suc (count n p)) (count n p) < cond b (suc (count n q)) (count n q)
       there true true g l = omega arith
       there true false g l = absurd (g tt)
       there false true g l = omega arith
       there false false g l = omega arith
 
-      pick : (x ≡ n) ⊎ (x < n) → (x < n → count n p < count n q) → cond (p n) (suc (count n p)) (count n p) < cond (q n) (suc (count n q)) (count n q)
-      pick (inl e) below = here (p n) (q n) (subst (λ z. T (not (p z))) e s) (subst (λ z. T (q z)) e t) (count-mono n (λ y l. f y (omega arith)))
+      pick : (x ≡ n) ⊎ (x < n) → (x < n → count n p < count n q)
+          → cond (p n) (suc (count n p)) (count n p) < cond (q n) (suc (count n q)) (count n q)
+      pick (inl e) below =
+          here (p n) (q n) (subst (λ z. T (not (p z))) e s) (subst (λ z. T (q z)) e t) (count-mono n (λ y l. f y (omega arith)))
       pick (inr l) below = there (p n) (q n) (f n (omega arith)) (below l)

@@ -47,8 +47,10 @@ pub record Demand3 (B : Book) : Type 0 where
   pub falls-exactly : (x : ℕ) → Listed B x → Falls B x ↔ ((F : Book) → Finish B F → Falls F x)
   pub stands-exactly : (x : ℕ) → Listed B x → Stands B x ↔ ((F : Book) → Finish B F → Stands F x)
   -- "One that has a length has no greater length in any finish."
-  pub falls-no-later : (F : Book) → Finish B F → (n x : ℕ) → Listed B x → Means B x (falls n) → (m : ℕ) × (m ≤ n) × Means F x (falls m)
-  pub stands-no-later : (F : Book) → Finish B F → (n x : ℕ) → Listed B x → Means B x (stands n) → (m : ℕ) × (m ≤ n) × Means F x (stands m)
+  pub falls-no-later : (F : Book) → Finish B F → (n x : ℕ) → Listed B x → Means B x (falls n) → (m : ℕ) × (m ≤ n)
+      × Means F x (falls m)
+  pub stands-no-later : (F : Book) → Finish B F → (n x : ℕ) → Listed B x → Means B x (stands n) → (m : ℕ) × (m ≤ n)
+      × Means F x (stands m)
 
 pub demand-2 : (B : Book) → Demand2 B
 demand-2 B = record {

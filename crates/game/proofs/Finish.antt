@@ -19,7 +19,9 @@ use Rattle.game.proofs.Transfer.{Same}
 module _ (B : Book) where
   is-listed : (y x : ℕ) → Listed B x → Objects B y x → T (between B y x)
   unfolding between
-  is-listed y x h o = and-of (ltb y (B .size) && ltb x (B .size)) (B .objects y x) (and-of (ltb y (B .size)) (ltb x (B .size)) (lt→ltb y (B .size) (o .0)) (lt→ltb x (B .size) h)) (o .1)
+  is-listed y x h o =
+      and-of (ltb y (B .size) && ltb x (B .size)) (B .objects y x)
+      (and-of (ltb y (B .size)) (ltb x (B .size)) (lt→ltb y (B .size) (o .0)) (lt→ltb x (B .size) h)) (o .1)
 
   of-listed : (y x : ℕ) → T (between B y x) → Listed B x × Objects B y x
   unfolding between
@@ -72,8 +74,11 @@ module _ (B : Book) where
       marks : (x : ℕ) → x < B .size + (F .size - B .size) → false ≡ F .unread x
       marks x l = sym (as-false (F .unread x) (fin .read x (omega (arith, size))))
 
-      objects : (y x : ℕ) → y < B .size + (F .size - B .size) → x < B .size + (F .size - B .size) → (between B y x || added F y x) ≡ F .objects y x
-      objects y x l m = same-test (between B y x || added F y x) (F .objects y x) (λ t. from (or-cases (between B y x) (added F y x) t)) (λ o. to o (decide (between B y x)))
+      objects : (y x : ℕ) → y < B .size + (F .size - B .size) → x < B .size + (F .size - B .size)
+          → (between B y x || added F y x) ≡ F .objects y x
+      objects y x l m =
+          same-test (between B y x || added F y x) (F .objects y x) (λ t. from (or-cases (between B y x) (added F y x) t))
+          (λ o. to o (decide (between B y x)))
         where
           from : T (between B y x) ⊎ T (added F y x) → T (F .objects y x)
           from (inl t) = let (h, o) = of-listed y x t in fin .keeps y x h o .1
@@ -104,7 +109,8 @@ module _ (B F : Book) (fin : Extends B F) where
   mutual
     pub falls-grow : (n : ℕ) (x : ℕ) → x < B .size → FallsWithin B n x → FallsWithin F n x
     falls-grow zero x h t = absurd (falls-zero B x t)
-    falls-grow (suc n) x h t = let (y, o, s) = falls-at B n x t in falls-by F n x y (fin .keeps y x h o) (stands-grow n y (o .0) s)
+    falls-grow (suc n) x h t =
+        let (y, o, s) = falls-at B n x t in falls-by F n x y (fin .keeps y x h o) (stands-grow n y (o .0) s)
 
     pub stands-grow : (n : ℕ) (x : ℕ) → x < B .size → StandsWithin B n x → StandsWithin F n x
     stands-grow zero x h t =
@@ -169,19 +175,37 @@ module _ (B : Book) where
 
   -- Demand 3.
   pub falls-in-every-finish : (x : ℕ) → x < B .size → Falls B x ↔ ((F : Book) → Finish B F → Falls F x)
-  falls-in-every-finish x h = (λ w F fin. (w .0, falls-game F (w .0) x .0 (falls-grow B F (finish-extends B F fin) (w .0) x h (falls-game B (w .0) x .1 (w .1)))), back)
+  falls-in-every-finish x h = (
+    λ w F fin. (
+      w .0,
+      falls-game F (w .0) x .0 (falls-grow B F (finish-extends B F fin) (w .0) x h
+          (falls-game B (w .0) x .1 (w .1))),
+    ),
+    back,
+  )
     where
       back : ((F : Book) → Finish B F → Falls F x) → Falls B x
       back f = let (n, t) = f plain plain-finish in (n, falls-game B n x .0 (falls-back n x h (falls-game plain n x .1 t)))
 
   pub stands-in-every-finish : (x : ℕ) → x < B .size → Stands B x ↔ ((F : Book) → Finish B F → Stands F x)
-  stands-in-every-finish x h = (λ w F fin. (w .0, stands-game F (w .0) x .0 (stands-grow B F (finish-extends B F fin) (w .0) x h (stands-game B (w .0) x .1 (w .1)))), back)
+  stands-in-every-finish x h = (
+    λ w F fin. (
+      w .0,
+      stands-game F (w .0) x .0 (stands-grow B F (finish-extends B F fin) (w .0) x h
+          (stands-game B (w .0) x .1 (w .1))),
+    ),
+    back,
+  )
     where
       back : ((F : Book) → Finish B F → Stands F x) → Stands B x
       back f = let (n, t) = f plain plain-finish in (n, stands-game B n x .0 (stands-back n x h (stands-game plain n x .1 t)))
 
-  pub falls-no-later : (F : Book) → Finish B F → (n x : ℕ) → x < B .size → Means B x (falls n) → (m : ℕ) × (m ≤ n) × Means F x (falls m)
-  falls-no-later F fin n x h p = falls-within F n x .0 (falls-grow B F (finish-extends B F fin) n x h (means-ruled B x (falls n) p .0))
+  pub falls-no-later : (F : Book) → Finish B F → (n x : ℕ) → x < B .size → Means B x (falls n) → (m : ℕ) × (m ≤ n)
+      × Means F x (falls m)
+  falls-no-later F fin n x h p =
+      falls-within F n x .0 (falls-grow B F (finish-extends B F fin) n x h (means-ruled B x (falls n) p .0))
 
-  pub stands-no-later : (F : Book) → Finish B F → (n x : ℕ) → x < B .size → Means B x (stands n) → (m : ℕ) × (m ≤ n) × Means F x (stands m)
-  stands-no-later F fin n x h p = stands-within F n x .0 (stands-grow B F (finish-extends B F fin) n x h (means-ruled B x (stands n) p .0))
+  pub stands-no-later : (F : Book) → Finish B F → (n x : ℕ) → x < B .size → Means B x (stands n) → (m : ℕ) × (m ≤ n)
+      × Means F x (stands m)
+  stands-no-later F fin n x h p =
+      stands-within F n x .0 (stands-grow B F (finish-extends B F fin) n x h (means-ruled B x (stands n) p .0))

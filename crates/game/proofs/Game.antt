@@ -52,10 +52,12 @@ module _ (B : Book) (σ : ℕ → ℕ) where
   mutual
     game-falls : (n : ℕ) (x : ℕ) → Forces B σ mine n x → FallsWithin B n x
     game-falls zero x F = let o = forces-objected F in absurd (not-suc-le-zero (F .within 1 theirs (σ x) (kept start o)))
-    game-falls (suc n) x F = let o = forces-objected F in falls-by B n x (σ x) (F .choice x o) (game-stands n (σ x) (forces-kept o F))
+    game-falls (suc n) x F =
+        let o = forces-objected F in falls-by B n x (σ x) (F .choice x o) (game-stands n (σ x) (forces-kept o F))
 
     game-stands : (n : ℕ) (x : ℕ) → Forces B σ theirs n x → StandsWithin B n x
-    game-stands zero x F = stands-zero-by B x (forces-read F) (λ w. not-suc-le-zero (F .within 1 mine (w .0) (named start (w .1))))
+    game-stands zero x F =
+        stands-zero-by B x (forces-read F) (λ w. not-suc-le-zero (F .within 1 mine (w .0) (named start (w .1))))
     game-stands (suc n) x F = stands-by B n x (forces-read F) (λ z o. game-falls n z (forces-named o F))
 
 -- However a play has gone in which I keep to a choice that forces a win, it can be played to its end, and I have won.
@@ -97,7 +99,8 @@ module _ (B : Book) (σ : ℕ → ℕ) where
   ended mine n x F = ended-mine n x F
   ended theirs n x F = ended-theirs n x F
 
-  pub played-out : {t m : Turn} {x y n k : ℕ} → Forces B σ t n x → Reach B σ t x k m y → (j : ℕ) × (z : ℕ) × (k ≤ j) × (j ≤ n) × Reach B σ t x j theirs z × Won B theirs z
+  pub played-out : {t m : Turn} {x y n k : ℕ} → Forces B σ t n x → Reach B σ t x k m y → (j : ℕ) × (z : ℕ) × (k ≤ j) × (j ≤ n)
+      × Reach B σ t x j theirs z × Won B theirs z
   unfolding Ended
   played-out {m = m} {y = y} {n = n} {k = k} F r =
       let (j, z, s, w) = ended m n y (later-forces F r) in
@@ -124,7 +127,13 @@ module _ (B : Book) where
   unfolding Held
   ends n k mine y (zero, l, f) = absurd (falls-zero B y f)
   ends n k mine y (suc j, l, f) = (omega arith, λ none. let (z, o, s) = falls-at B j y f in none (z, o))
-  ends n k theirs y (j, l, s) = (omega arith, elim [ inl none ↦ (none, stands-read B j y s) | inr u ↦ absurd (clash (B .unread y) u (stands-read B j y s)) ])
+  ends n k theirs y (j, l, s) = (
+    omega arith,
+    elim [
+      | inl none ↦ (none, stands-read B j y s)
+      | inr u ↦ absurd (clash (B .unread y) u (stands-read B j y s))
+    ],
+  )
 
   module _ (n : ℕ) (σ : ℕ → ℕ) (legal : Choice B σ) (good : (x : ℕ) → Answer n x (σ x)) where
     held : {x k y : ℕ} {t m : Turn} → Held n 0 t x → Reach B σ t x k m y → Held n k m y
@@ -171,11 +180,13 @@ module _ (B : Book) where
       go (inr f) = (0, λ w. absurd (f w), λ j h t. absurd (falls-zero B x (falls-mono B j 0 x h t)))
   pick (suc n) x = go (pick n x) (decide (fallsWithin B n x)) (decide (fallsWithin B (suc n) x))
     where
-      still : (y : ℕ) → Answer n x y → FallsWithin B n x → (j : ℕ) → FallsWithin B j x → Dec (j ≤ n) → (i : ℕ) × (i < j) × StandsWithin B i y
+      still : (y : ℕ) → Answer n x y → FallsWithin B n x → (j : ℕ) → FallsWithin B j x → Dec (j ≤ n) → (i : ℕ) × (i < j)
+          × StandsWithin B i y
       still y a f j t (yes l) = a j l t
       still y a f j t (no g) = let (i, l, s) = a n (omega arith) f in (i, omega arith, s)
 
-      go : Pick n x → T (fallsWithin B n x) ⊎ T (not (fallsWithin B n x)) → T (fallsWithin B (suc n) x) ⊎ T (not (fallsWithin B (suc n) x)) → Pick (suc n) x
+      go : Pick n x → T (fallsWithin B n x) ⊎ T (not (fallsWithin B n x)) → T (fallsWithin B (suc n) x)
+          ⊎ T (not (fallsWithin B (suc n) x)) → Pick (suc n) x
       go (y, o, a) (inl f) d = (y, o, λ j h t. still y a f j t (decLe j n))
       go p (inr w) (inl f) = let (y, o, s) = falls-at B n x f in (y, λ v. o, λ j h t. (n, later n j x w t, s))
       go (y, o, a) (inr w) (inr g) = (y, o, λ j h t. absurd (clash (fallsWithin B (suc n) x) (falls-mono B j (suc n) x h t) g))
@@ -193,7 +204,11 @@ module _ (B : Book) where
   soonest-good n x = pick n x .2
 
   pub falls-game : (n x : ℕ) → FallsWithin B n x ↔ FirstWins B n x
-  falls-game n x = (λ f. (soonest n, forces-falling n (soonest n) (soonest-legal n) (soonest-good n) x f), λ w. game-falls B (w .0) n x (w .1))
+  falls-game n x =
+      (λ f. (soonest n, forces-falling n (soonest n) (soonest-legal n) (soonest-good n) x f), λ w. game-falls B (w .0) n x (w .1))
 
   pub stands-game : (n x : ℕ) → StandsWithin B n x ↔ SecondWins B n x
-  stands-game n x = (λ s. (soonest n, forces-standing n (soonest n) (soonest-legal n) (soonest-good n) x s), λ w. game-stands B (w .0) n x (w .1))
+  stands-game n x = (
+    λ s. (soonest n, forces-standing n (soonest n) (soonest-legal n) (soonest-good n) x s),
+    λ w. game-stands B (w .0) n x (w .1),
+  )

@@ -42,16 +42,27 @@ module _ (B : Book) where
   -- what is newly settled has an objector that was newly settled the round before
   descend-falls : (n x : ℕ) → T (not (settled n x)) → FallsWithin B (suc n) x → (y : ℕ) × (y < B .size) × New n y
   descend-falls zero x w f = let (y, o, s) = falls-at B zero x f in (y, o .0, settled-stands zero y s)
-  descend-falls (suc m) x w f = let (y, o, s) = falls-at B (suc m) x f in (y, o .0, (settled-stands (suc m) y s, refute (settled m y) (λ t. go y o s (settled-cases m y t))))
+  descend-falls (suc m) x w f =
+      let (y, o, s) = falls-at B (suc m) x f in (
+        y,
+        o .0,
+        (
+          settled-stands (suc m) y s,
+          refute (settled m y) (λ t. go y o s (settled-cases m y t)),
+        ),
+      )
     where
       go : (y : ℕ) → Objects B y x → StandsWithin B (suc m) y → FallsWithin B m y ⊎ StandsWithin B m y → ⊥
       go y o s (inl g) = exclusive B m (suc m) y g s
       go y o s (inr s′) = clash (settled (suc m) x) (settled-falls (suc m) x (falls-by B m x y o s′)) w
 
   descend-stands : (n x : ℕ) → T (not (settled n x)) → StandsWithin B (suc n) x → (y : ℕ) × (y < B .size) × New n y
-  descend-stands zero x w s = absurd (clash (settled zero x) (settled-stands zero x (stands-zero-by B x (stands-read B 1 x s) (λ v. falls-zero B (v .0) (stands-at B 0 x s (v .0) (v .1))))) w)
+  descend-stands zero x w s =
+      absurd (clash (settled zero x) (settled-stands zero x (stands-zero-by B x (stands-read B 1 x s)
+      (λ v. falls-zero B (v .0) (stands-at B 0 x s (v .0) (v .1))))) w)
   descend-stands (suc m) x w s =
-      let (y, o, g) = unanswered B m x (stands-read B (suc (suc m)) x s) (λ t. clash (settled (suc m) x) (settled-stands (suc m) x t) w) in
+      let (y, o, g) = unanswered B m x (stands-read B (suc (suc m)) x s)
+      (λ t. clash (settled (suc m) x) (settled-stands (suc m) x t) w) in
       let f = stands-at B (suc m) x s y o in
       (y, o .0, (settled-falls (suc m) y f, refute (settled m y) (λ t. go y g f (settled-cases m y t))))
     where

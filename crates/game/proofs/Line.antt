@@ -58,7 +58,8 @@ module _ (B : Book) where
           (to-yes (Verdict-discrete ℕ-discrete (verdict B y) w) e)
 
   -- what has turns left has an objector that takes one turn less
-  pub next : (x n : ℕ) (v : Verdict) → Fits B (verdict B) x v → turns v ≡ suc n → (y : ℕ) × (w : Verdict) × Objects B y x × (verdict B y ≡ w) × Onward v w × (turns w ≡ n)
+  pub next : (x n : ℕ) (v : Verdict) → Fits B (verdict B) x v → turns v ≡ suc n → (y : ℕ) × (w : Verdict) × Objects B y x
+      × (verdict B y ≡ w) × Onward v w × (turns w ≡ n)
   next x n is-open a e = absurd (omega arith)
   next x n (falls k) (m, d, (y, o, f), c) e = (y, stands m, o, f, d, omega arith)
   next x n (stands k) (r, a, top) e = let (y, o, f) = top n e in (y, falls n, o, f, e, refl)
@@ -104,7 +105,8 @@ module _ (B : Book) where
 
   pub line-unique : {x : ℕ} {l l′ : List ℕ} → Line B x l → Line B x l′ → l ≡ l′
   line-unique (ends v m p) (ends v′ m′ p′) = refl
-  line-unique {x} (ends v m p) (goes-on v′ w′ m′ o′ f′ r′) = absurd (last-onward v′ w′ (subst Last (means-unique B x v v′ m m′) p) o′)
+  line-unique {x} (ends v m p) (goes-on v′ w′ m′ o′ f′ r′) =
+      absurd (last-onward v′ w′ (subst Last (means-unique B x v v′ m m′) p) o′)
   line-unique {x} (goes-on v w m o f r) (ends v′ m′ p′) = absurd (last-onward v w (subst Last (means-unique B x v′ v m′ m) p′) o)
   line-unique {x} (goes-on {y = y} {l = l} v w m o f r) (goes-on {y = y′} {l = l′} v′ w′ m′ o′ f′ r′) =
       let d : w ≡ w′ = onward-unique v w w′ o (subst (λ u. Onward u w′) (means-unique B x v′ v m′ m) o′) in
@@ -114,7 +116,13 @@ module _ (B : Book) where
   pub line-bound : (x : ℕ) (l : List ℕ) → Listed B x → Line B x l → length l ≤ B .size
   line-bound x l h r =
       let (k, t, c) = line x (verdict B x) h (verdict-means B x h) in
-      omega (arith, ap length (line-unique r t), c, few (B .size - 1) (verdict B x) (length-bound B x h (verdict B x) (verdict-means B x h)))
+      omega (
+        arith,
+        ap length (line-unique r t),
+        c,
+        few (B .size - 1) (verdict B x)
+            (length-bound B x h (verdict B x) (verdict-means B x h)),
+      )
     where
       few : (n : ℕ) (v : Verdict) → Within n v → turns v ≤ n
       few n is-open w = omega arith

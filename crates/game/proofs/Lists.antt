@@ -31,5 +31,8 @@ module _ (marks objectors targets : List ℕ) where
       same a b e = subst (λ c. T (eqb a c)) e (eqb-refl a)
 
       from : (y < length marks) × ((k : ℕ) × Entry y x k) → Objects (bookOf marks objectors targets) y x
-      from (l, (k, (h, a, b))) =
-          (l, any-of (length objectors) (entry y x) k h (and-of (eqb (getD objectors k 0) y) (eqb (getD targets k 0) x) (same (getD objectors k 0) y a) (same (getD targets k 0) x b)))
+      from (l, (k, (h, a, b))) = (
+        l,
+        any-of (length objectors) (entry y x) k h (and-of (eqb (getD objectors k 0) y) (eqb (getD targets k 0) x)
+            (same (getD objectors k 0) y a) (same (getD targets k 0) x b)),
+      )

@@ -32,12 +32,23 @@ module _ (B : Book) (y x : ℕ) where
     where
       go : (k : Option Kind) → kindOf (verdict B x) (verdict B y) ≡ k → (κ : Kind) × OfKind B y x κ
       go none e = absurd (never-occurs (verdict B x) (verdict B y) o (verdict-means B x l) (verdict-means B y (o .0)) e)
-      go (some κ) e = (κ, record { target = verdict B x; objector = verdict B y; objects = o; target-means = verdict-means B x l; objector-means = verdict-means B y (o .0); is = e })
+      go (some κ) e = (
+        κ,
+        record {
+          target = verdict B x;
+          objector = verdict B y;
+          objects = o;
+          target-means = verdict-means B x l;
+          objector-means = verdict-means B y (o .0);
+          is = e;
+        },
+      )
 
   pub kind-unique : (κ κ′ : Kind) → OfKind B y x κ → OfKind B y x κ′ → κ ≡ κ′
   kind-unique κ κ′ a b =
       let e : kindOf (a .target) (a .objector) ≡ kindOf (b .target) (b .objector) =
-      ap₂ kindOf (means-unique B x (a .target) (b .target) (a .target-means) (b .target-means)) (means-unique B y (a .objector) (b .objector) (a .objector-means) (b .objector-means)) in
+      ap₂ kindOf (means-unique B x (a .target) (b .target) (a .target-means) (b .target-means))
+      (means-unique B y (a .objector) (b .objector) (a .objector-means) (b .objector-means)) in
       let p : kindOf (a .target) (a .objector) ≡ some κ = a .is in
       let q : kindOf (b .target) (b .objector) ≡ some κ′ = b .is in
       cc
@@ -105,7 +116,8 @@ module _ (target objector length : ℕ) (e : Ends target objector length) where
 
   -- an objector that is not open has a length, and one more than that fits 16 bits
   pub ends-length : (objector ≡ 0 → ⊥) → length + 1 ≤ 65535
-  ends-length h = go (e .objector-told .verdict) (e .objector-told .means) (e .objector-told .label-is) (e .objector-told .length-is)
+  ends-length h =
+      go (e .objector-told .verdict) (e .objector-told .means) (e .objector-told .label-is) (e .objector-told .length-is)
     where
       go : (v : Verdict) → Means (e .book) (e .y) v → objector ≡ labelNumber v → length ≡ lengthNumber v → length + 1 ≤ 65535
       go is-open m l n = absurd (h l)

@@ -73,15 +73,19 @@ module _ (B : Book) where
   pub objected? : (x : ℕ) → Objected B x ⊎ (¬ Objected B x)
   objected? x = go (decide (any (B .size) (λ y. B .objects y x)))
     where
-      go : T (any (B .size) (λ y. B .objects y x)) ⊎ T (not (any (B .size) (λ y. B .objects y x))) → Objected B x ⊎ (¬ Objected B x)
+      go : T (any (B .size) (λ y. B .objects y x)) ⊎ T (not (any (B .size) (λ y. B .objects y x))) → Objected B x
+          ⊎ (¬ Objected B x)
       go (inl t) = let (y, h, o) = any-at (B .size) (λ y. B .objects y x) t in inl (y, (h, o))
-      go (inr f) = inr (λ w. clash (any (B .size) (λ y. B .objects y x)) (any-of (B .size) (λ y. B .objects y x) (w .0) (w .1 .0) (w .1 .1)) f)
+      go (inr f) =
+          inr (λ w. clash (any (B .size) (λ y. B .objects y x)) (any-of (B .size) (λ y. B .objects y x) (w .0) (w .1 .0)
+          (w .1 .1)) f)
 
   -- a read statement that does not stand within n + 1 turns has an objector that does not fall within n
   pub unanswered : (n x : ℕ) → Read B x → (StandsWithin B (suc n) x → ⊥) → (y : ℕ) × Objects B y x × T (not (fallsWithin B n y))
   unfolding fallsWithin
   unanswered n x r f =
-      let (y, h, u) = not-all (B .size) (answered n x) (refute (all (B .size) (answered n x)) (λ t. f (and-of (not (B .unread x)) (all (B .size) (answered n x)) r t))) in
+      let (y, h, u) = not-all (B .size) (answered n x) (refute (all (B .size) (answered n x))
+      (λ t. f (and-of (not (B .unread x)) (all (B .size) (answered n x)) r t))) in
       let (o, g) = not-only-if (B .objects y x) (fallsWithin B n y) u in
       (y, (h, o), g)
 
@@ -107,4 +111,5 @@ module _ (B : Book) where
   not-both (suc n) x f s = let (y, o, t) = falls-at n x f in not-both n y (stands-at n x s y o) t
 
   pub exclusive : (n m x : ℕ) → FallsWithin B n x → StandsWithin B m x → ⊥
-  exclusive n m x f s = not-both (max n m) x (falls-mono n (max n m) x (omega arith) f) (stands-mono m (max n m) x (omega arith) s)
+  exclusive n m x f s =
+      not-both (max n m) x (falls-mono n (max n m) x (omega arith) f) (stands-mono m (max n m) x (omega arith) s)

@@ -125,7 +125,8 @@ unfolding all
 not-all zero p t = absurd t
 not-all (suc n) p t = go (p n) refl t (not-all n p)
   where
-    go : (b : Bool) → p n ≡ b → T (not (b && all n p)) → (T (not (all n p)) → (y : ℕ) × (y < n) × T (not (p y))) → (y : ℕ) × (y < suc n) × T (not (p y))
+    go : (b : Bool) → p n ≡ b → T (not (b && all n p)) → (T (not (all n p)) → (y : ℕ) × (y < n) × T (not (p y))) → (y : ℕ)
+        × (y < suc n) × T (not (p y))
     go true e u f = let w = f u in (w .0, omega (arith, w .1), w .2)
     go false e u f = (n, omega arith, subst (λ b. T (not b)) (sym e) tt)
 
@@ -142,7 +143,8 @@ least-below p (suc n) = go (least-below p n) (decide (p n))
     miss f w m (inl e) = subst (λ z. T (not (p z))) (sym e) w
     miss f w m (inr l) = f m l
 
-    go : ((k : ℕ) × (k < n) × Least (λ m. T (p m)) k) ⊎ ((m : ℕ) → m < n → T (not (p m))) → T (p n) ⊎ T (not (p n)) → ((k : ℕ) × (k < suc n) × Least (λ m. T (p m)) k) ⊎ ((m : ℕ) → m < suc n → T (not (p m)))
+    go : ((k : ℕ) × (k < n) × Least (λ m. T (p m)) k) ⊎ ((m : ℕ) → m < n → T (not (p m))) → T (p n) ⊎ T (not (p n))
+        → ((k : ℕ) × (k < suc n) × Least (λ m. T (p m)) k) ⊎ ((m : ℕ) → m < suc n → T (not (p m)))
     go (inl (k, h, l)) d = inl (k, omega arith, l)
     go (inr f) (inl t) = inl (n, omega arith, (t, λ m u. bound f m u (decLe n m)))
     go (inr f) (inr w) = inr (λ m h. miss f w m (below-suc h))
@@ -150,7 +152,8 @@ least-below p (suc n) = go (least-below p n) (decide (p n))
 pub least : (p : ℕ → Bool) (n : ℕ) → T (p n) → (k : ℕ) × (k ≤ n) × Least (λ m. T (p m)) k
 least p n t = go (least-below p (suc n))
   where
-    go : ((k : ℕ) × (k < suc n) × Least (λ m. T (p m)) k) ⊎ ((m : ℕ) → m < suc n → T (not (p m))) → (k : ℕ) × (k ≤ n) × Least (λ m. T (p m)) k
+    go : ((k : ℕ) × (k < suc n) × Least (λ m. T (p m)) k) ⊎ ((m : ℕ) → m < suc n → T (not (p m))) → (k : ℕ) × (k ≤ n)
+        × Least (λ m. T (p m)) k
     go (inl (k, h, l)) = (k, omega arith, l)
     go (inr f) = absurd (clash (p n) t (f n (omega arith)))
 

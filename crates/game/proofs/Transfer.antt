@@ -29,7 +29,8 @@ pub record Part (B C : Book) (f : ℕ → ℕ) : Type 0 where
   pub listed : (x : ℕ) → Listed C x → Listed B (f x)
   pub marks : (x : ℕ) → Listed C x → C .unread x ≡ B .unread (f x)
   pub old : (y x : ℕ) → Listed C x → Objects C y x → Objects B (f y) (f x)
-  pub needed : (y x : ℕ) (v w : Verdict) → Listed C x → Objects B y (f x) → Means B (f x) v → Means B y w → Needed v w → (z : ℕ) × Objects C z x × (f z ≡ y)
+  pub needed : (y x : ℕ) (v w : Verdict) → Listed C x → Objects B y (f x) → Means B (f x) v → Means B y w → Needed v w → (z : ℕ)
+      × Objects C z x × (f z ≡ y)
 
 module _ (B C : Book) (f : ℕ → ℕ) (p : Part B C f) where
   v : ℕ → Verdict
@@ -39,7 +40,8 @@ module _ (B C : Book) (f : ℕ → ℕ) (p : Part B C f) where
   unfolding v
   agree x l = go (verdict B (f x)) refl (verdict-agrees B (f x) (p .listed x l))
     where
-      lift : (y : ℕ) (a b : Verdict) → Objects B y (f x) → verdict B (f x) ≡ a → verdict B y ≡ b → Needed a b → (z : ℕ) × Objects C z x × (verdict B (f z) ≡ b)
+      lift : (y : ℕ) (a b : Verdict) → Objects B y (f x) → verdict B (f x) ≡ a → verdict B y ≡ b → Needed a b → (z : ℕ)
+          × Objects C z x × (verdict B (f z) ≡ b)
       lift y a b o c d n =
           let m : Means B (f x) a = subst (λ w. Means B (f x) w) c (verdict-means B (f x) (p .listed x l)) in
           let k : Means B y b = subst (λ w. Means B y w) d (verdict-means B y (o .0)) in
@@ -56,7 +58,8 @@ module _ (B C : Book) (f : ℕ → ℕ) (p : Part B C f) where
       )
       go is-open c (none, why) = ((λ z k q g. none (f z) k (p .old z x l q) g), because why)
         where
-          because : Unread B (f x) ⊎ ((y : ℕ) × Objects B y (f x) × (verdict B y ≡ is-open)) → Unread C x ⊎ ((y : ℕ) × Objects C y x × (v y ≡ is-open))
+          because : Unread B (f x) ⊎ ((y : ℕ) × Objects B y (f x) × (verdict B y ≡ is-open)) → Unread C x
+              ⊎ ((y : ℕ) × Objects C y x × (v y ≡ is-open))
           because (inl u) = inl (subst T (sym (p .marks x l)) u)
           because (inr (y, o, d)) = inr (lift y is-open is-open o c d tt)
 
@@ -67,7 +70,8 @@ module _ (B C : Book) (f : ℕ → ℕ) (p : Part B C f) where
   pub transfer : (x : ℕ) (w : Verdict) → Listed C x → Means B (f x) w ↔ Means C x w
   transfer x w l = (
     λ m. subst (λ u. Means C x u) (same-verdict x l ∙ sym (means-verdict B (f x) (p .listed x l) w m)) (verdict-means C x l),
-    λ m. subst (λ u. Means B (f x) u) (sym (same-verdict x l) ∙ sym (means-verdict C x l w m)) (verdict-means B (f x) (p .listed x l)),
+    λ m. subst (λ u. Means B (f x) u) (sym (same-verdict x l) ∙ sym (means-verdict C x l w m))
+        (verdict-means B (f x) (p .listed x l)),
   )
 
 -- Two books that are the same as far as they list anything.

@@ -19,7 +19,12 @@ use Rattle.game.proofs.Length.{settled, settled-falls, settled-stands, 
 unfoldable pub verdictBy : Book → ℕ → ℕ → Verdict
 verdictBy B zero x = cond (standsWithin B zero x) (stands zero) is-open
 verdictBy B (suc n) x =
-    elim (verdictBy B n x) [ is-open ↦ cond (standsWithin B (suc n) x) (stands (suc n)) (cond (fallsWithin B (suc n) x) (falls (suc n)) is-open) | stands k ↦ stands k | falls k ↦ falls k ]
+    elim (verdictBy B n x) [
+      | is-open ↦ cond (standsWithin B (suc n) x) (stands (suc n))
+          (cond (fallsWithin B (suc n) x) (falls (suc n)) is-open)
+      | stands k ↦ stands k
+      | falls k ↦ falls k
+    ]
 
 unfoldable pub verdict : Book → ℕ → Verdict
 verdict B x = verdictBy B (B .size - 1) x
@@ -38,7 +43,8 @@ Ruled B x (falls n) = Least (λ m. FallsWithin B m x) n
 
 module _ (B : Book) where
   pub ruled-means : (x : ℕ) (v : Verdict) → Ruled B x v → Means B x v
-  ruled-means x is-open (f, s) = (λ w. f (w .0) (falls-game B (w .0) x .1 (w .1)), λ w. s (w .0) (stands-game B (w .0) x .1 (w .1)))
+  ruled-means x is-open (f, s) =
+      (λ w. f (w .0) (falls-game B (w .0) x .1 (w .1)), λ w. s (w .0) (stands-game B (w .0) x .1 (w .1)))
   ruled-means x (stands n) (t, l) = (stands-game B n x .0 t, λ m u. l m (stands-game B m x .1 u))
   ruled-means x (falls n) (t, l) = (falls-game B n x .0 t, λ m u. l m (falls-game B m x .1 u))
 
@@ -63,7 +69,8 @@ module _ (B : Book) where
   means-unique x v w p q = ruled-unique x v w (means-ruled x v p) (means-ruled x w q)
 
   -- so what is said of a statement by a number of its verdict is one
-  pub number-unique : (number : Verdict → ℕ) (x e e′ : ℕ) → (v : Verdict) × Means B x v × (e ≡ number v) → (v : Verdict) × Means B x v × (e′ ≡ number v) → e ≡ e′
+  pub number-unique : (number : Verdict → ℕ) (x e e′ : ℕ) → (v : Verdict) × Means B x v × (e ≡ number v) → (v : Verdict)
+      × Means B x v × (e′ ≡ number v) → e ≡ e′
   number-unique number x e e′ (v, m, p) (w, n, q) = p ∙ ap number (means-unique x v w m n) ∙ sym q
 
   settled-le : (n m x : ℕ) → n ≤ m → T (settled B n x) → T (settled B m x)
@@ -99,16 +106,24 @@ module _ (B : Book) where
       go false e = refute (settled B zero x) (λ t. open-at (subst (λ b. T (not b)) (sym e) tt) (settled-cases B zero x t))
   round (suc n) x = go (verdictBy B n x) (round n x)
     where
-      open-at : T (not (standsWithin B (suc n) x)) → T (not (fallsWithin B (suc n) x)) → FallsWithin B (suc n) x ⊎ StandsWithin B (suc n) x → ⊥
+      open-at : T (not (standsWithin B (suc n) x)) → T (not (fallsWithin B (suc n) x)) → FallsWithin B (suc n) x
+          ⊎ StandsWithin B (suc n) x → ⊥
       open-at w v (inl f) = clash (fallsWithin B (suc n) x) f v
       open-at w v (inr s) = clash (standsWithin B (suc n) x) s w
 
-      next : T (not (settled B n x)) → (a b : Bool) → standsWithin B (suc n) x ≡ a → fallsWithin B (suc n) x ≡ b → Round (suc n) x (cond a (stands (suc n)) (cond b (falls (suc n)) is-open))
+      next : T (not (settled B n x)) → (a b : Bool) → standsWithin B (suc n) x ≡ a → fallsWithin B (suc n) x ≡ b
+          → Round (suc n) x (cond a (stands (suc n)) (cond b (falls (suc n)) is-open))
       next w true b d e = (omega arith, (subst T (sym d) tt, λ m u. after n m x w (settled-stands B m x u)))
       next w false true d e = (omega arith, (subst T (sym e) tt, λ m u. after n m x w (settled-falls B m x u)))
-      next w false false d e = refute (settled B (suc n) x) (λ t. open-at (subst (λ b. T (not b)) (sym d) tt) (subst (λ b. T (not b)) (sym e) tt) (settled-cases B (suc n) x t))
+      next w false false d e =
+          refute (settled B (suc n) x) (λ t. open-at (subst (λ b. T (not b)) (sym d) tt) (subst (λ b. T (not b)) (sym e) tt)
+          (settled-cases B (suc n) x t))
 
-      go : (v : Verdict) → Round n x v → Round (suc n) x (elim v [ is-open ↦ cond (standsWithin B (suc n) x) (stands (suc n)) (cond (fallsWithin B (suc n) x) (falls (suc n)) is-open) | stands k ↦ stands k | falls k ↦ falls k ])
+      go : (v : Verdict) → Round n x v → Round (suc n) x (elim v [
+        | is-open ↦ cond (standsWithin B (suc n) x) (stands (suc n)) (cond (fallsWithin B (suc n) x) (falls (suc n)) is-open)
+        | stands k ↦ stands k
+        | falls k ↦ falls k
+      ])
       go is-open w = next w (standsWithin B (suc n) x) (fallsWithin B (suc n) x) refl refl
       go (stands k) (h, p) = (omega arith, p)
       go (falls k) (h, p) = (omega arith, p)
@@ -118,7 +133,8 @@ module _ (B : Book) where
   newly zero x t = (zero, t, t)
   newly (suc n) x t = go (decide (settled B n x)) (newly n x)
     where
-      go : T (settled B n x) ⊎ T (not (settled B n x)) → (T (settled B n x) → (k : ℕ) × T (settled B k x) × New B k x) → (k : ℕ) × T (settled B k x) × New B k x
+      go : T (settled B n x) ⊎ T (not (settled B n x)) → (T (settled B n x) → (k : ℕ) × T (settled B k x) × New B k x) → (k : ℕ)
+          × T (settled B k x) × New B k x
       go (inl u) f = f u
       go (inr w) f = (suc n, t, (t, w))
 
@@ -132,7 +148,10 @@ module _ (B : Book) where
   ruled-verdict x h = go (verdictBy B (B .size - 1) x) (round (B .size - 1) x)
     where
       go : (v : Verdict) → Round (B .size - 1) x v → Ruled B x v
-      go is-open w = (λ n f. clash (settled B (B .size - 1) x) (enough n x h (settled-falls B n x f)) w, λ n s. clash (settled B (B .size - 1) x) (enough n x h (settled-stands B n x s)) w)
+      go is-open w = (
+        λ n f. clash (settled B (B .size - 1) x) (enough n x h (settled-falls B n x f)) w,
+        λ n s. clash (settled B (B .size - 1) x) (enough n x h (settled-stands B n x s)) w,
+      )
       go (stands k) p = p .1
       go (falls k) p = p .1
 
@@ -167,7 +186,14 @@ module _ (B : Book) where
 
       go : (n : ℕ) → Ruled B x (stands n) → n ≤ B .size - 1
       go zero q = omega arith
-      go (suc m) q = omega (arith, new-bound B (suc m) x h (settled-stands B (suc m) x (q .0), refute (settled B m x) (λ t. old m q (settled-cases B m x t))))
+      go (suc m) q =
+          omega (
+            arith,
+            new-bound B (suc m) x h (
+              settled-stands B (suc m) x (q .0),
+              refute (settled B m x) (λ t. old m q (settled-cases B m x t)),
+            ),
+          )
   length-bound x h (falls n) m = go n (means-ruled x (falls n) m)
     where
       old : (m : ℕ) → Ruled B x (falls (suc m)) → FallsWithin B m x ⊎ StandsWithin B m x → ⊥
@@ -176,14 +202,23 @@ module _ (B : Book) where
 
       go : (n : ℕ) → Ruled B x (falls n) → n ≤ B .size - 1
       go zero q = omega arith
-      go (suc m) q = omega (arith, new-bound B (suc m) x h (settled-falls B (suc m) x (q .0), refute (settled B m x) (λ t. old m q (settled-cases B m x t))))
+      go (suc m) q =
+          omega (
+            arith,
+            new-bound B (suc m) x h (
+              settled-falls B (suc m) x (q .0),
+              refute (settled B m x) (λ t. old m q (settled-cases B m x t)),
+            ),
+          )
 
   -- what falls has a length, and so has what stands
   pub falls-length : (x : ℕ) → Falls B x ↔ ((n : ℕ) × Means B x (falls n))
-  falls-length x = (λ w. let (k, h, m) = falls-within (w .0) x .0 (falls-game B (w .0) x .1 (w .1)) in (k, m), λ w. (w .0, w .1 .0))
+  falls-length x =
+      (λ w. let (k, h, m) = falls-within (w .0) x .0 (falls-game B (w .0) x .1 (w .1)) in (k, m), λ w. (w .0, w .1 .0))
 
   pub stands-length : (x : ℕ) → Stands B x ↔ ((n : ℕ) × Means B x (stands n))
-  stands-length x = (λ w. let (k, h, m) = stands-within (w .0) x .0 (stands-game B (w .0) x .1 (w .1)) in (k, m), λ w. (w .0, w .1 .0))
+  stands-length x =
+      (λ w. let (k, h, m) = stands-within (w .0) x .0 (stands-game B (w .0) x .1 (w .1)) in (k, m), λ w. (w .0, w .1 .0))
 
   pub unread-stands : (x : ℕ) → Unread B x → Stands B x → ⊥
   unread-stands x u (n, s) = clash (B .unread x) u (stands-read B n x (stands-game B n x .1 s))

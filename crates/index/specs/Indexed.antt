@@ -13,7 +13,8 @@ slot rest node = 4 * node + rest % 4
 -- from a node, with so much of a number left, k steps lead to another, with so much left
 unfoldable pub Leads : (links : List ℕ) (k rest node rest′ node′ : ℕ) → Type 0
 Leads links zero rest node rest′ node′ = (rest ≡ rest′) × (node ≡ node′)
-Leads links (suc k) rest node rest′ node′ = (0 < getD links (slot rest node) 0) × Leads links k (rest / 4) (getD links (slot rest node) 0) rest′ node′
+Leads links (suc k) rest node rest′ node′ =
+    (0 < getD links (slot rest node) 0) × Leads links k (rest / 4) (getD links (slot rest node) 0) rest′ node′
 
 -- the first n numbers are issued once, links lead from earlier nodes to later ones, and each number leads to its place
 pub record Indexed (numbers : List ℕ) (n : ℕ) (links : List ℕ) : Type 0 where

@@ -61,7 +61,8 @@ fn free_slot(numbers: &[u32], n: usize, links: &[u16], number: u32) -> usize
 // Enters a new number at place n.
 pub fn enter(numbers: &mut [u32], n: usize, links: &mut [u16], number: u32)
     requires { ⌜ Indexed (now numbers) n (now links) × New (now numbers) n number ⌝ }
-    ensures { λ _. ⌜ (now (numbers .exit) ≡ set (now (numbers .entry)) n number) × Indexed (now (numbers .exit)) (n + 1) (now (links .exit)) ⌝ }
+    ensures { λ _. ⌜ (now (numbers .exit) ≡ set (now (numbers .entry)) n number)
+        × Indexed (now (numbers .exit)) (n + 1) (now (links .exit)) ⌝ }
 {
     let s = free_slot(numbers, n, links, number);
     numbers[n] = number;

@@ -47,7 +47,8 @@ stands-said l n k h e = go (ℕ-discrete l 2) (ℕ-discrete l 1)
     go (no p) (yes q) = (q, cc (said-stands l n q))
     go (no p) (no q) = let z : _≡_ {A = ℕ} 0 1 = cc (said-open l n (omega arith)) in absurd (omega arith)
 
-module _ (marks objectors targets labels lengths : List ℕ) (reg : Handed marks objectors targets) (ok : Sound marks objectors targets labels lengths) (full : Full marks objectors targets labels lengths) where
+module _ (marks objectors targets labels lengths : List ℕ) (reg : Handed marks objectors targets)
+    (ok : Sound marks objectors targets labels lengths) (full : Full marks objectors targets labels lengths) where
   abbrev B : Book
   B = bookOf marks objectors targets
 
@@ -59,7 +60,8 @@ module _ (marks objectors targets labels lengths : List ℕ) (reg : Handed marks
 
   -- the objector of an entry against x objects to it, and every objector is that of an entry
   by-entry : (x e : ℕ) → Has x e → Objects B (getD objectors e 0) x
-  by-entry x e (h, t) = objects-entry marks objectors targets (getD objectors e 0) x .1 (reg .order .objector e h, (e, (h, refl, t)))
+  by-entry x e (h, t) =
+      objects-entry marks objectors targets (getD objectors e 0) x .1 (reg .order .objector e h, (e, (h, refl, t)))
 
   entry-of : (x z : ℕ) → Objects B z x → (e : ℕ) × Has x e × (getD objectors e 0 ≡ z) × (z < length marks)
   entry-of x z o =
@@ -98,7 +100,8 @@ module _ (marks objectors targets labels lengths : List ℕ) (reg : Handed marks
   unfolding v
   fits-stands x hx l1 = (read x (ok .stood x hx l1), every, longest)
     where
-      beaten : (e : ℕ) → Has x e → (getD labels (getD objectors e 0) 0 ≡ 2) × (getD lengths (getD objectors e 0) 0 + 1 ≤ getD lengths x 0)
+      beaten : (e : ℕ) → Has x e → (getD labels (getD objectors e 0) 0 ≡ 2)
+          × (getD lengths (getD objectors e 0) 0 + 1 ≤ getD lengths x 0)
       beaten e (h, t) = rw t at (ok .beaten e h (rw t l1))
 
       every : (z : ℕ) → Objects B z x → (k : ℕ) × (v z ≡ falls k) × (k < getD lengths x 0)
@@ -110,7 +113,8 @@ module _ (marks objectors targets labels lengths : List ℕ) (reg : Handed marks
       longest : (m : ℕ) → getD lengths x 0 ≡ suc m → (y : ℕ) × Objects B y x × (v y ≡ falls m)
       longest m n = go (ok .tight x hx l1)
         where
-          go : (getD lengths x 0 ≡ 0) ⊎ ((e : ℕ) × (e < length objectors) × (getD targets e 0 ≡ x) × (getD lengths (getD objectors e 0) 0 + 1 ≡ getD lengths x 0)) → (y : ℕ) × Objects B y x × (v y ≡ falls m)
+          go : (getD lengths x 0 ≡ 0) ⊎ ((e : ℕ) × (e < length objectors) × (getD targets e 0 ≡ x)
+              × (getD lengths (getD objectors e 0) 0 + 1 ≡ getD lengths x 0)) → (y : ℕ) × Objects B y x × (v y ≡ falls m)
           go (inl z) = absurd (omega arith)
           go (inr (e, h, t, k)) =
               let w : ℕ = getD objectors e 0 in
@@ -157,7 +161,8 @@ module _ (marks objectors targets labels lengths : List ℕ) (reg : Handed marks
   unfolding v
   tell x hx m = go (ℕ-discrete (getD labels x 0) 2) (ℕ-discrete (getD labels x 0) 1)
     where
-      with : (w : Verdict) → v x ≡ w → getD labels x 0 ≡ labelNumber w → getD lengths x 0 ≡ lengthNumber w → Told B x (getD labels x 0) (getD lengths x 0)
+      with : (w : Verdict) → v x ≡ w → getD labels x 0 ≡ labelNumber w → getD lengths x 0 ≡ lengthNumber w
+          → Told B x (getD labels x 0) (getD lengths x 0)
       with w e l n = record { verdict = w; means = subst (λ u. Means B x u) e m; label-is = l; length-is = n }
 
       go : Dec (getD labels x 0 ≡ 2) → Dec (getD labels x 0 ≡ 1) → Told B x (getD labels x 0) (getD lengths x 0)

@@ -16,13 +16,15 @@ one-more true m n h = omega arith
 one-more false m n h = h
 
 -- one objection less
-pub cnt-flip : (ts ds : List ℕ) (e x : ℕ) → e < length ts → e < length ds → getD ds e 0 ≡ 0 → getD ts e 0 ≡ x → cnt ts (set ds e 1) x + 1 ≡ cnt ts ds x
+pub cnt-flip : (ts ds : List ℕ) (e x : ℕ) → e < length ts → e < length ds → getD ds e 0 ≡ 0 → getD ts e 0 ≡ x
+    → cnt ts (set ds e 1) x + 1 ≡ cnt ts ds x
 unfolding cnt
 cnt-flip [] ds e x ht hd z p = absurd (not-suc-le-zero ht)
 cnt-flip (t ∷ ts) [] e x ht hd z p = absurd (not-suc-le-zero hd)
 cnt-flip (t ∷ ts) (zero ∷ ds) zero x ht hd z p = rw (eq-eqb t x p) (omega arith)
 cnt-flip (t ∷ ts) (suc d ∷ ds) zero x ht hd z p = omega arith
-cnt-flip (t ∷ ts) (zero ∷ ds) (suc e) x ht hd z p = one-more (eqb t x) _ _ (cnt-flip ts ds e x (le-of-suc-le-suc ht) (le-of-suc-le-suc hd) z p)
+cnt-flip (t ∷ ts) (zero ∷ ds) (suc e) x ht hd z p =
+    one-more (eqb t x) _ _ (cnt-flip ts ds e x (le-of-suc-le-suc ht) (le-of-suc-le-suc hd) z p)
 cnt-flip (t ∷ ts) (suc d ∷ ds) (suc e) x ht hd z p = cnt-flip ts ds e x (le-of-suc-le-suc ht) (le-of-suc-le-suc hd) z p
 
 -- other places' numbers stay
@@ -38,17 +40,20 @@ cnt-other (t ∷ ts) (zero ∷ ds) (suc e) v x n ht = ap (one (eqb t x)) (cnt-ot
 cnt-other (t ∷ ts) (suc d ∷ ds) (suc e) v x n ht = cnt-other ts ds e v x n (le-of-suc-le-suc ht)
 
 -- none left: each objection against x is done
-pub cnt-none : (ts ds : List ℕ) (e x : ℕ) → cnt ts ds x ≡ 0 → e < length ts → e < length ds → getD ts e 0 ≡ x → getD ds e 0 ≡ 0 → ⊥
+pub cnt-none : (ts ds : List ℕ) (e x : ℕ) → cnt ts ds x ≡ 0 → e < length ts → e < length ds → getD ts e 0 ≡ x → getD ds e 0 ≡ 0
+    → ⊥
 cnt-none ts ds e x c ht hd p z = omega (arith, cnt-flip ts ds e x ht hd z p)
 
 -- some left: an objection against x is not done
-pub cnt-some : (ts ds : List ℕ) (x : ℕ) → (cnt ts ds x ≡ 0 → ⊥) → (e : ℕ) × (e < length ts) × (getD ts e 0 ≡ x) × (getD ds e 0 ≡ 0)
+pub cnt-some : (ts ds : List ℕ) (x : ℕ) → (cnt ts ds x ≡ 0 → ⊥) → (e : ℕ) × (e < length ts) × (getD ts e 0 ≡ x)
+    × (getD ds e 0 ≡ 0)
 unfolding cnt
 cnt-some [] ds x n = absurd (n refl)
 cnt-some (t ∷ ts) [] x n = absurd (n refl)
 cnt-some (t ∷ ts) (zero ∷ ds) x n = go (λ m. cnt-some ts ds x m) (ℕ-discrete t x)
   where
-    go : ((cnt ts ds x ≡ 0 → ⊥) → (e : ℕ) × (e < length ts) × (getD ts e 0 ≡ x) × (getD ds e 0 ≡ 0)) → Dec (t ≡ x) → (e : ℕ) × (e < length (t ∷ ts)) × (getD (t ∷ ts) e 0 ≡ x) × (getD (0 ∷ ds) e 0 ≡ 0)
+    go : ((cnt ts ds x ≡ 0 → ⊥) → (e : ℕ) × (e < length ts) × (getD ts e 0 ≡ x) × (getD ds e 0 ≡ 0)) → Dec (t ≡ x) → (e : ℕ)
+        × (e < length (t ∷ ts)) × (getD (t ∷ ts) e 0 ≡ x) × (getD (0 ∷ ds) e 0 ≡ 0)
     go f (yes p) = (zero, omega arith, p, refl)
     go f (no p) = let w = f (λ z. n (rw (ne-eqb t x p) z)) in (suc (w .0), omega (arith, w .1), w .2, w .3)
 cnt-some (t ∷ ts) (suc d ∷ ds) x n = let w = cnt-some ts ds x n in (suc (w .0), omega (arith, w .1), w .2, w .3)

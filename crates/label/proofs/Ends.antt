@@ -11,7 +11,9 @@ use Rattle.game.proofs.Lists.{objects-entry}
 use Rattle.chain.specs.Handed.{Handed}
 use Rattle.label.specs.Labelled.{Labelled}
 
-module _ (marks objectors targets labels lengths : List ℕ) (reg : Handed marks objectors targets) (told : Labelled (bookOf marks objectors targets) labels lengths) (k y x : ℕ) (h : k < length objectors) (hy : y ≡ getD objectors k 0) (hx : x ≡ getD targets k 0) where
+module _ (marks objectors targets labels lengths : List ℕ) (reg : Handed marks objectors targets)
+    (told : Labelled (bookOf marks objectors targets) labels lengths) (k y x : ℕ) (h : k < length objectors)
+    (hy : y ≡ getD objectors k 0) (hx : x ≡ getD targets k 0) where
   pub objector-place : y < length marks
   objector-place = omega (arith, hy, reg .order .objector k h)
 
@@ -31,6 +33,7 @@ module _ (marks objectors targets labels lengths : List ℕ) (reg : Handed marks
     objector-told = told .told y objector-place;
   }
 
-  pub kind-of-entry : (κ : Kind) → ((e : Ends (getD labels x 0) (getD labels y 0) (getD lengths y 0)) → OfKind (e .book) (e .y) (e .x) κ) → OfKind (bookOf marks objectors targets) (getD objectors k 0) (getD targets k 0) κ
+  pub kind-of-entry : (κ : Kind) → ((e : Ends (getD labels x 0) (getD labels y 0) (getD lengths y 0))
+      → OfKind (e .book) (e .y) (e .x) κ) → OfKind (bookOf marks objectors targets) (getD objectors k 0) (getD targets k 0) κ
   unfolding ends
   kind-of-entry κ f = subst₂ (λ b a. OfKind (bookOf marks objectors targets) b a κ) hy hx (f ends)

@@ -22,19 +22,24 @@ zeros-set (suc a ∷ l) (suc x) v hx z hv = zeros-set l x v (le-of-suc-le-suc hx
 
 module _ (labels lengths : List ℕ) (x v k : ℕ) (hl : x < length labels) (hn : x < length lengths) where
   -- a place is the one that was labelled, or is as it was
-  pub back : (y : ℕ) → ((y ≡ x) × (getD (set labels x v) y 0 ≡ v) × (getD (set lengths x k) y 0 ≡ k)) ⊎ ((getD (set labels x v) y 0 ≡ getD labels y 0) × (getD (set lengths x k) y 0 ≡ getD lengths y 0))
+  pub back : (y : ℕ) → ((y ≡ x) × (getD (set labels x v) y 0 ≡ v) × (getD (set lengths x k) y 0 ≡ k))
+      ⊎ ((getD (set labels x v) y 0 ≡ getD labels y 0) × (getD (set lengths x k) y 0 ≡ getD lengths y 0))
   back y = go (ℕ-discrete y x)
     where
-      go : Dec (y ≡ x) → ((y ≡ x) × (getD (set labels x v) y 0 ≡ v) × (getD (set lengths x k) y 0 ≡ k)) ⊎ ((getD (set labels x v) y 0 ≡ getD labels y 0) × (getD (set lengths x k) y 0 ≡ getD lengths y 0))
+      go : Dec (y ≡ x) → ((y ≡ x) × (getD (set labels x v) y 0 ≡ v) × (getD (set lengths x k) y 0 ≡ k))
+          ⊎ ((getD (set labels x v) y 0 ≡ getD labels y 0) × (getD (set lengths x k) y 0 ≡ getD lengths y 0))
       go (yes p) = inl (p, rw p (getD-set-same labels x v 0 hl), rw p (getD-set-same lengths x k 0 hn))
       go (no p) = inr (getD-set-other labels x y v 0 p, getD-set-other lengths x y k 0 p)
 
   -- what was labelled is as it was
-  pub kept : getD labels x 0 ≡ 0 → (y : ℕ) → (getD labels y 0 ≡ 0 → ⊥) → (getD (set labels x v) y 0 ≡ getD labels y 0) × (getD (set lengths x k) y 0 ≡ getD lengths y 0)
+  pub kept : getD labels x 0 ≡ 0 → (y : ℕ) → (getD labels y 0 ≡ 0 → ⊥) → (getD (set labels x v) y 0 ≡ getD labels y 0)
+      × (getD (set lengths x k) y 0 ≡ getD lengths y 0)
   kept z y n = ⊎-elim (λ w. absurd (n (ap (λ (i : ℕ). getD labels i 0) (w .0) ∙ z))) (λ w. w) (back y)
 
-module _ (marks objectors targets labels lengths : List ℕ) (x k : ℕ) (hl : x < length labels) (hn : x < length lengths) (ok : Sound marks objectors targets labels lengths) (z : getD labels x 0 ≡ 0) where
-  pub sound-fall : (e : ℕ) → e < length objectors → getD targets e 0 ≡ x → getD labels (getD objectors e 0) 0 ≡ 1 → getD lengths (getD objectors e 0) 0 + 1 ≡ k → Sound marks objectors targets (set labels x 2) (set lengths x k)
+module _ (marks objectors targets labels lengths : List ℕ) (x k : ℕ) (hl : x < length labels) (hn : x < length lengths)
+    (ok : Sound marks objectors targets labels lengths) (z : getD labels x 0 ≡ 0) where
+  pub sound-fall : (e : ℕ) → e < length objectors → getD targets e 0 ≡ x → getD labels (getD objectors e 0) 0 ≡ 1
+      → getD lengths (getD objectors e 0) 0 + 1 ≡ k → Sound marks objectors targets (set labels x 2) (set lengths x k)
   sound-fall e he ht l1 hk = record {
     small = λ y hy. ⊎-elim (λ w. omega arith) (λ w. omega (arith, ok .small y hy)) (bk y);
     dash = λ y hy l. ⊎-elim (λ w. omega arith) (λ w. w .1 ∙ ok .dash y hy (sym (w .0) ∙ l)) (bk y);
@@ -62,13 +67,18 @@ module _ (marks objectors targets labels lengths : List ℕ) (x k : ℕ) (hl : x
         (ok .tight y hy (sym (w .0) ∙ l))) (bk y);
   }
     where
-      bk : (y : ℕ) → ((y ≡ x) × (getD (set labels x 2) y 0 ≡ 2) × (getD (set lengths x k) y 0 ≡ k)) ⊎ ((getD (set labels x 2) y 0 ≡ getD labels y 0) × (getD (set lengths x k) y 0 ≡ getD lengths y 0))
+      bk : (y : ℕ) → ((y ≡ x) × (getD (set labels x 2) y 0 ≡ 2) × (getD (set lengths x k) y 0 ≡ k))
+          ⊎ ((getD (set labels x 2) y 0 ≡ getD labels y 0) × (getD (set lengths x k) y 0 ≡ getD lengths y 0))
       bk = back labels lengths x 2 k hl hn
 
-      kp : (y : ℕ) → (getD labels y 0 ≡ 0 → ⊥) → (getD (set labels x 2) y 0 ≡ getD labels y 0) × (getD (set lengths x k) y 0 ≡ getD lengths y 0)
+      kp : (y : ℕ) → (getD labels y 0 ≡ 0 → ⊥) → (getD (set labels x 2) y 0 ≡ getD labels y 0)
+          × (getD (set lengths x k) y 0 ≡ getD lengths y 0)
       kp = kept labels lengths x 2 k hl hn z
 
-  pub sound-stand : getD marks x 0 ≡ 0 → ((e : ℕ) → e < length objectors → getD targets e 0 ≡ x → (getD labels (getD objectors e 0) 0 ≡ 2) × (getD lengths (getD objectors e 0) 0 + 1 ≤ k)) → (k ≡ 0) ⊎ ((e : ℕ) × (e < length objectors) × (getD targets e 0 ≡ x) × (getD lengths (getD objectors e 0) 0 + 1 ≡ k)) → Sound marks objectors targets (set labels x 1) (set lengths x k)
+  pub sound-stand : getD marks x 0 ≡ 0 → ((e : ℕ) → e < length objectors → getD targets e 0 ≡ x
+      → (getD labels (getD objectors e 0) 0 ≡ 2) × (getD lengths (getD objectors e 0) 0 + 1 ≤ k)) → (k ≡ 0)
+      ⊎ ((e : ℕ) × (e < length objectors) × (getD targets e 0 ≡ x) × (getD lengths (getD objectors e 0) 0 + 1 ≡ k))
+      → Sound marks objectors targets (set labels x 1) (set lengths x k)
   sound-stand r all last = record {
     small = λ y hy. ⊎-elim (λ w. omega arith) (λ w. omega (arith, ok .small y hy)) (bk y);
     dash = λ y hy l. ⊎-elim (λ w. omega arith) (λ w. w .1 ∙ ok .dash y hy (sym (w .0) ∙ l)) (bk y);
@@ -106,16 +116,19 @@ module _ (marks objectors targets labels lengths : List ℕ) (x k : ℕ) (hl : x
         (ok .tight y hy (sym (w .0) ∙ l))) (bk y);
   }
     where
-      bk : (y : ℕ) → ((y ≡ x) × (getD (set labels x 1) y 0 ≡ 1) × (getD (set lengths x k) y 0 ≡ k)) ⊎ ((getD (set labels x 1) y 0 ≡ getD labels y 0) × (getD (set lengths x k) y 0 ≡ getD lengths y 0))
+      bk : (y : ℕ) → ((y ≡ x) × (getD (set labels x 1) y 0 ≡ 1) × (getD (set lengths x k) y 0 ≡ k))
+          ⊎ ((getD (set labels x 1) y 0 ≡ getD labels y 0) × (getD (set lengths x k) y 0 ≡ getD lengths y 0))
       bk = back labels lengths x 1 k hl hn
 
-      kp : (y : ℕ) → (getD labels y 0 ≡ 0 → ⊥) → (getD (set labels x 1) y 0 ≡ getD labels y 0) × (getD (set lengths x k) y 0 ≡ getD lengths y 0)
+      kp : (y : ℕ) → (getD labels y 0 ≡ 0 → ⊥) → (getD (set labels x 1) y 0 ≡ getD labels y 0)
+          × (getD (set lengths x k) y 0 ≡ getD lengths y 0)
       kp = kept labels lengths x 1 k hl hn z
 
 pub below-ne : {x i : ℕ} → x < i → x ≡ i → ⊥
 below-ne h p = omega arith
 
-pub sound-blank : (marks objectors targets : List ℕ) → Handed marks objectors targets → (labels lengths : List ℕ) → Blank marks labels lengths → Sound marks objectors targets labels lengths
+pub sound-blank : (marks objectors targets : List ℕ) → Handed marks objectors targets → (labels lengths : List ℕ)
+    → Blank marks labels lengths → Sound marks objectors targets labels lengths
 sound-blank marks objectors targets reg labels lengths b = record {
   small = λ x hx. omega (arith, b .no-label x hx);
   dash = λ x hx l. b .no-length x hx;

@@ -36,7 +36,8 @@ Pending queue s t z = (i : ℕ) × (s ≤ i) × (i < t) × (getD queue i 0 ≡ z
 abbrev pub Owed : List ℕ → List ℕ → ℕ → ℕ → ℕ → ℕ → ℕ → Type 0
 Owed objectors queue s t y c e = Pending queue s t (getD objectors e 0) ⊎ ((getD objectors e 0 ≡ y) × (e + 1 ≤ c))
 
--- The labelling with its queue. What is looked at is y, at the link c; what is labelled now gets the length k; the places before lim are settled.
+-- The labelling with its queue. What is looked at is y, at the link c; what is labelled now gets the length k; the places
+-- before lim are settled.
 pub record Run (marks objectors targets : List ℕ) (lim s t y c k : ℕ) (labels lengths left queue : List ℕ) : Type 0 where
   pub done : List ℕ
   pub room : length done ≡ length objectors
@@ -51,10 +52,13 @@ pub record Run (marks objectors targets : List ℕ) (lim s t y c k : ℕ) (label
   pub short : (i : ℕ) → i < t → getD lengths (getD queue i 0) 0 ≤ i
   pub within : k ≤ t
   pub full : t + zeros labels ≡ length marks
-  pub fallen : (e : ℕ) → e < length objectors → (getD done e 0 ≡ 0 → ⊥) → (getD labels (getD objectors e 0) 0 ≡ 2) × (getD lengths (getD objectors e 0) 0 + 1 ≤ k)
+  pub fallen : (e : ℕ) → e < length objectors → (getD done e 0 ≡ 0 → ⊥)
+      → (getD labels (getD objectors e 0) 0 ≡ 2) × (getD lengths (getD objectors e 0) 0 + 1 ≤ k)
   pub fresh : (e : ℕ) → e < length objectors → Owed objectors queue s t y c e → getD done e 0 ≡ 0
-  pub owed : (e : ℕ) → e < length objectors → getD done e 0 ≡ 0 → getD labels (getD objectors e 0) 0 ≡ 2 → Owed objectors queue s t y c e
-  pub fells : (e : ℕ) → e < length objectors → getD labels (getD objectors e 0) 0 ≡ 1 → Fells marks objectors targets labels lengths e ⊎ Owed objectors queue s t y c e
+  pub owed : (e : ℕ) → e < length objectors → getD done e 0 ≡ 0 → getD labels (getD objectors e 0) 0 ≡ 2
+      → Owed objectors queue s t y c e
+  pub fells : (e : ℕ) → e < length objectors → getD labels (getD objectors e 0) 0 ≡ 1
+      → Fells marks objectors targets labels lengths e ⊎ Owed objectors queue s t y c e
   pub counts : (x : ℕ) → x < length marks → getD left x 0 ≡ cnt targets done x
   pub lifted : (x : ℕ) → x < length marks → x < lim → getD marks x 0 ≡ 0 → getD left x 0 ≡ 0 → getD labels x 0 ≡ 1
 

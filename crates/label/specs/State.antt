@@ -11,15 +11,22 @@ module _ (marks objectors targets labels lengths : List ℕ) where
   pub record Sound : Type 0 where
     pub small : (x : ℕ) → x < length marks → getD labels x 0 ≤ 2
     pub dash : (x : ℕ) → x < length marks → getD labels x 0 ≡ 0 → getD lengths x 0 ≡ 65535
-    pub felled : (x : ℕ) → x < length marks → getD labels x 0 ≡ 2 → (e : ℕ) × (e < length objectors) × (getD targets e 0 ≡ x) × (getD labels (getD objectors e 0) 0 ≡ 1) × (getD lengths (getD objectors e 0) 0 + 1 ≡ getD lengths x 0)
+    pub felled : (x : ℕ) → x < length marks → getD labels x 0 ≡ 2
+        → (e : ℕ) × (e < length objectors) × (getD targets e 0 ≡ x)
+        × (getD labels (getD objectors e 0) 0 ≡ 1) × (getD lengths (getD objectors e 0) 0 + 1 ≡ getD lengths x 0)
     pub stood : (x : ℕ) → x < length marks → getD labels x 0 ≡ 1 → getD marks x 0 ≡ 0
-    pub beaten : (e : ℕ) → e < length objectors → getD labels (getD targets e 0) 0 ≡ 1 → (getD labels (getD objectors e 0) 0 ≡ 2) × (getD lengths (getD objectors e 0) 0 + 1 ≤ getD lengths (getD targets e 0) 0)
-    pub tight : (x : ℕ) → x < length marks → getD labels x 0 ≡ 1 → (getD lengths x 0 ≡ 0) ⊎ ((e : ℕ) × (e < length objectors) × (getD targets e 0 ≡ x) × (getD lengths (getD objectors e 0) 0 + 1 ≡ getD lengths x 0))
+    pub beaten : (e : ℕ) → e < length objectors → getD labels (getD targets e 0) 0 ≡ 1
+        → (getD labels (getD objectors e 0) 0 ≡ 2) × (getD lengths (getD objectors e 0) 0 + 1 ≤ getD lengths (getD targets e 0) 0)
+    pub tight : (x : ℕ) → x < length marks → getD labels x 0 ≡ 1
+        → (getD lengths x 0 ≡ 0)
+        ⊎ ((e : ℕ) × (e < length objectors) × (getD targets e 0 ≡ x) × (getD lengths (getD objectors e 0) 0 + 1 ≡ getD lengths x 0))
 
   -- nothing is left to label
   pub record Full : Type 0 where
-    pub fells : (e : ℕ) → e < length objectors → getD labels (getD objectors e 0) 0 ≡ 1 → (getD labels (getD targets e 0) 0 ≡ 2) × (getD lengths (getD targets e 0) 0 ≤ getD lengths (getD objectors e 0) 0 + 1)
-    pub holds : (x : ℕ) → x < length marks → getD marks x 0 ≡ 0 → (getD labels x 0 ≡ 1 → ⊥) → (e : ℕ) × (e < length objectors) × (getD targets e 0 ≡ x) × (getD labels (getD objectors e 0) 0 ≡ 2 → ⊥)
+    pub fells : (e : ℕ) → e < length objectors → getD labels (getD objectors e 0) 0 ≡ 1
+        → (getD labels (getD targets e 0) 0 ≡ 2) × (getD lengths (getD targets e 0) 0 ≤ getD lengths (getD objectors e 0) 0 + 1)
+    pub holds : (x : ℕ) → x < length marks → getD marks x 0 ≡ 0 → (getD labels x 0 ≡ 1 → ⊥)
+        → (e : ℕ) × (e < length objectors) × (getD targets e 0 ≡ x) × (getD labels (getD objectors e 0) 0 ≡ 2 → ⊥)
 
   -- the target of the entry e falls no later than its objector lets it
   abbrev pub Fells : ℕ → Type 0

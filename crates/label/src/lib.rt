@@ -59,7 +59,8 @@ fn start(
     requires { ⌜ (length (now marks) ≤ length (now left)) × (length (now marks) ≤ length (now queue)) ⌝ }
     requires { ⌜ Counted (now marks) (now targets) (length (now targets)) (now left) ⌝ }
     requires { ⌜ Blank (now marks) (now labels) (now lengths) ⌝ }
-    ensures { λ r. ⌜ Turn (now (marks .entry)) (now (objectors .entry)) (now (targets .entry)) 0 r (now (labels .exit)) (now (lengths .exit)) (now (left .entry)) (now (queue .exit)) ⌝ }
+    ensures { λ r. ⌜ Turn (now (marks .entry)) (now (objectors .entry)) (now (targets .entry)) 0 r (now (labels .exit))
+        (now (lengths .exit)) (now (left .entry)) (now (queue .exit)) ⌝ }
 {
     let mut t = 0;
     let mut i = 0;
@@ -99,8 +100,10 @@ fn fell(
     requires { ⌜ Rooms (now marks) (now labels) (now lengths) ⌝ }
     requires { ⌜ Spaces (now marks) (now objectors) (now head) (now next) (now left) (now queue) ⌝ }
     requires { ⌜ Chained (now objectors) (length (now objectors)) (now head) (now next) ⌝ }
-    requires { ⌜ Turn (now marks) (now objectors) (now targets) h tail (now labels) (now lengths) (now left) (now queue) × (h < tail) × (getD (now labels) (getD (now queue) h 0) 0 ≡ 1) ⌝ }
-    ensures { λ r. ⌜ Turn (now (marks .entry)) (now (objectors .entry)) (now (targets .entry)) (h + 1) r (now (labels .exit)) (now (lengths .exit)) (now (left .entry)) (now (queue .exit)) ⌝ }
+    requires { ⌜ Turn (now marks) (now objectors) (now targets) h tail (now labels) (now lengths) (now left) (now queue)
+        × (h < tail) × (getD (now labels) (getD (now queue) h 0) 0 ≡ 1) ⌝ }
+    ensures { λ r. ⌜ Turn (now (marks .entry)) (now (objectors .entry)) (now (targets .entry)) (h + 1) r (now (labels .exit))
+        (now (lengths .exit)) (now (left .entry)) (now (queue .exit)) ⌝ }
 {
     let y = wide(queue[h]);
     let k = lengths[y] + 1;
@@ -138,8 +141,10 @@ fn lift(
     requires { ⌜ Rooms (now marks) (now labels) (now lengths) ⌝ }
     requires { ⌜ Spaces (now marks) (now objectors) (now head) (now next) (now left) (now queue) ⌝ }
     requires { ⌜ Chained (now objectors) (length (now objectors)) (now head) (now next) ⌝ }
-    requires { ⌜ Turn (now marks) (now objectors) (now targets) h tail (now labels) (now lengths) (now left) (now queue) × (h < tail) × (getD (now labels) (getD (now queue) h 0) 0 ≡ 2) ⌝ }
-    ensures { λ r. ⌜ Turn (now (marks .entry)) (now (objectors .entry)) (now (targets .entry)) (h + 1) r (now (labels .exit)) (now (lengths .exit)) (now (left .exit)) (now (queue .exit)) ⌝ }
+    requires { ⌜ Turn (now marks) (now objectors) (now targets) h tail (now labels) (now lengths) (now left) (now queue)
+        × (h < tail) × (getD (now labels) (getD (now queue) h 0) 0 ≡ 2) ⌝ }
+    ensures { λ r. ⌜ Turn (now (marks .entry)) (now (objectors .entry)) (now (targets .entry)) (h + 1) r (now (labels .exit))
+        (now (lengths .exit)) (now (left .exit)) (now (queue .exit)) ⌝ }
 {
     let y = wide(queue[h]);
     let k = lengths[y] + 1;
@@ -185,7 +190,8 @@ fn run(
     requires { ⌜ Spaces (now marks) (now objectors) (now head) (now next) (now left) (now queue) ⌝ }
     requires { ⌜ Chained (now objectors) (length (now objectors)) (now head) (now next) ⌝ }
     requires { ⌜ Turn (now marks) (now objectors) (now targets) 0 tail (now labels) (now lengths) (now left) (now queue) ⌝ }
-    ensures { λ _. ⌜ Labelled (bookOf (now (marks .entry)) (now (objectors .entry)) (now (targets .entry))) (now (labels .exit)) (now (lengths .exit)) ⌝ }
+    ensures { λ _. ⌜ Labelled (bookOf (now (marks .entry)) (now (objectors .entry)) (now (targets .entry))) (now (labels .exit))
+        (now (lengths .exit)) ⌝ }
 {
     let mut t = tail;
     let mut h = 0;
@@ -229,7 +235,8 @@ fn run(
 fn settle(marks: &[u8], objectors: &[u32], targets: &[u32], labels: &mut [u8], lengths: &mut [u16])
     requires { ⌜ Handed (now marks) (now objectors) (now targets) ⌝ }
     requires { ⌜ Rooms (now marks) (now labels) (now lengths) ⌝ }
-    ensures { λ _. ⌜ Labelled (bookOf (now (marks .entry)) (now (objectors .entry)) (now (targets .entry))) (now (labels .exit)) (now (lengths .exit)) ⌝ }
+    ensures { λ _. ⌜ Labelled (bookOf (now (marks .entry)) (now (objectors .entry)) (now (targets .entry))) (now (labels .exit))
+        (now (lengths .exit)) ⌝ }
 {
     let mut head = [0u16; 1024];
     let mut next = [0u16; 4096];
@@ -271,7 +278,8 @@ pub fn solve(
 )
     requires { ⌜ Handed (now marks) (now objectors) (now targets) ⌝ }
     requires { ⌜ (length (now marks) ≤ length (now labels)) × (length (now marks) ≤ length (now lengths)) ⌝ }
-    ensures { λ _. ⌜ Solved (now (marks .entry)) (now (objectors .entry)) (now (targets .entry)) (now (labels .entry)) (now (lengths .entry)) (now (labels .exit)) (now (lengths .exit)) ⌝ }
+    ensures { λ _. ⌜ Solved (now (marks .entry)) (now (objectors .entry)) (now (targets .entry)) (now (labels .entry))
+        (now (lengths .entry)) (now (labels .exit)) (now (lengths .exit)) ⌝ }
 {
     let n = marks.len();
     settle(
@@ -293,9 +301,11 @@ pub fn kind_at(
     k: usize,
 ) -> Kind
     requires { ⌜ Handed (now marks) (now objectors) (now targets) ⌝ }
-    requires { ⌜ (length (now marks) ≤ length (now labels)) × (length (now marks) ≤ length (now lengths)) × (k < length (now objectors)) ⌝ }
+    requires { ⌜ (length (now marks) ≤ length (now labels)) × (length (now marks) ≤ length (now lengths))
+        × (k < length (now objectors)) ⌝ }
     requires { ⌜ Labelled (bookOf (now marks) (now objectors) (now targets)) (now labels) (now lengths) ⌝ }
-    ensures { λ r. ⌜ OfKind (bookOf (now (marks .entry)) (now (objectors .entry)) (now (targets .entry))) (getD (now (objectors .entry)) k 0) (getD (now (targets .entry)) k 0) r ⌝ }
+    ensures { λ r. ⌜ OfKind (bookOf (now (marks .entry)) (now (objectors .entry)) (now (targets .entry)))
+        (getD (now (objectors .entry)) k 0) (getD (now (targets .entry)) k 0) r ⌝ }
 {
     let y = place(objectors[k]);
     let x = place(targets[k]);

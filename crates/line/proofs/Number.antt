@@ -37,7 +37,8 @@ pub decimal-more : (n d : ℕ) → 0 < n → d < 10 → n * 10 + d < 10 ^ 10 →
 decimal-more n d h l k =
     let q : (n * 10 + d) / 10 ≡ n = omega arith in
     let r : (n * 10 + d) % 10 ≡ d = omega arith in
-    decimal-tenth (n * 10 + d) (omega arith) k ∙ ap (λ a. decimal a ++ ((48 + (n * 10 + d) % 10) ∷ [])) q ∙ ap (λ b. decimal n ++ ((48 + b) ∷ [])) r
+    decimal-tenth (n * 10 + d) (omega arith) k ∙ ap (λ a. decimal a ++ ((48 + (n * 10 + d) % 10) ∷ [])) q
+    ∙ ap (λ b. decimal n ++ ((48 + b) ∷ [])) r
 
 -- every byte is a digit's
 abbrev pub Digits : List ℕ → Type 0
@@ -49,25 +50,30 @@ digits-append [] q a b = b
 digits-append (x ∷ p) q (l, h, a) b = (l, h, digits-append p q a b)
 
 -- What holds of one digit, and of a tenth with one digit more, holds of every number below 10 ^ 10.
-module _ (P : ℕ → List ℕ → Type 0) (one : (n : ℕ) → n < 10 → P n ((48 + n) ∷ [])) (step : (n d : ℕ) (ds : List ℕ) → 0 < n → d < 10 → P n ds → P (n * 10 + d) (ds ++ ((48 + d) ∷ []))) where
+module _ (P : ℕ → List ℕ → Type 0) (one : (n : ℕ) → n < 10 → P n ((48 + n) ∷ []))
+    (step : (n d : ℕ) (ds : List ℕ) → 0 < n → d < 10 → P n ds → P (n * 10 + d) (ds ++ ((48 + d) ∷ []))) where
   by-digits : (f n : ℕ) → n < 10 ^ suc f → P n (decimalIn (suc f) n)
   unfolding decimalIn
   by-digits zero n h = let l : n < 10 = h in rw (lt-ltb n 10 l) (one n l)
   by-digits (suc f) n h = go (decLt n 10) (λ k. by-digits f (n / 10) k)
     where
-      go : Dec (n < 10) → (n / 10 < 10 ^ suc f → P (n / 10) (decimalIn (suc f) (n / 10))) → P n (pick (ltb n 10) ((48 + n) ∷ []) (decimalIn (suc f) (n / 10) ++ ((48 + n % 10) ∷ [])))
+      go : Dec (n < 10) → (n / 10 < 10 ^ suc f → P (n / 10) (decimalIn (suc f) (n / 10)))
+          → P n (pick (ltb n 10) ((48 + n) ∷ []) (decimalIn (suc f) (n / 10) ++ ((48 + n % 10) ∷ [])))
       go (yes l) ih = rw (lt-ltb n 10 l) (one n l)
       go (no l) ih =
           let k : n / 10 < 10 ^ suc f = omega (arith, rw (pow-suc 10 (suc f)) at h) in
           let e : n / 10 * 10 + n % 10 ≡ n = omega arith in
-          rw (le-ltb n 10 (omega arith)) (subst (λ m. P m (decimalIn (suc f) (n / 10) ++ ((48 + n % 10) ∷ []))) e (step (n / 10) (n % 10) (decimalIn (suc f) (n / 10)) (omega arith) (omega arith) (ih k)))
+          rw (le-ltb n 10 (omega arith)) (subst (λ m. P m (decimalIn (suc f) (n / 10) ++ ((48 + n % 10) ∷ []))) e
+          (step (n / 10) (n % 10) (decimalIn (suc f) (n / 10)) (omega arith) (omega arith) (ih k)))
 
   pub of-decimal : (n : ℕ) → n < 10 ^ 10 → P n (decimal n)
   unfolding decimal
   of-decimal n h = by-digits 9 n h
 
 pub decimal-digits : (n : ℕ) → n < 10 ^ 10 → Digits (decimal n)
-decimal-digits = of-decimal (λ n ds. Digits ds) (λ n h. (omega arith, omega arith, tt)) (λ n d ds h l p. digits-append ds ((48 + d) ∷ []) p (omega arith, omega arith, tt))
+decimal-digits =
+    of-decimal (λ n ds. Digits ds) (λ n h. (omega arith, omega arith, tt))
+    (λ n d ds h l p. digits-append ds ((48 + d) ∷ []) p (omega arith, omega arith, tt))
 
 -- the first byte of a number above 0 is not that of 0
 abbrev pub Leads : ℕ → List ℕ → Type 0
@@ -107,7 +113,8 @@ unfolding decimalIn
 short zero n = omega arith
 short (suc f) n = go (ltb n 10) (short f (n / 10))
   where
-    go : (b : Bool) → length (decimalIn f (n / 10)) ≤ f → length (pick b ((48 + n) ∷ []) (decimalIn f (n / 10) ++ ((48 + n % 10) ∷ []))) ≤ suc f
+    go : (b : Bool) → length (decimalIn f (n / 10)) ≤ f → length
+        (pick b ((48 + n) ∷ []) (decimalIn f (n / 10) ++ ((48 + n % 10) ∷ []))) ≤ suc f
     go true i = omega arith
     go false i = omega (arith, length-append (decimalIn f (n / 10)) ((48 + n % 10) ∷ []))
 

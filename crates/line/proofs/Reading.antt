@@ -95,7 +95,8 @@ digits-fewer (x ∷ p) (y ∷ q) u c r a h e =
     omega arith
 
 -- a number's first byte
-lead : (n c : ℕ) (r u : List ℕ) → IsNumber n → u ≡ numberBytes n ++ (c ∷ r) → (b : ℕ) × (t : List ℕ) × (u ≡ b ∷ t) × (48 < b) × (b ≤ 57)
+lead : (n c : ℕ) (r u : List ℕ) → IsNumber n → u ≡ numberBytes n ++ (c ∷ r) → (b : ℕ) × (t : List ℕ) × (u ≡ b ∷ t) × (48 < b)
+    × (b ≤ 57)
 lead n c r u h e = go (decimal n) refl (decimal-leads n (omega arith)) (decimal-digits n (omega arith))
   where
     go : (ds : List ℕ) → decimal n ≡ ds → Leads n ds → Digits ds → (b : ℕ) × (t : List ℕ) × (u ≡ b ∷ t) × (48 < b) × (b ≤ 57)
@@ -140,7 +141,8 @@ module _ (s : List ℕ) (at value i : ℕ) (v : Inv s at value i) where
   turn d here l h =
       let n : i + 1 - at ≡ suc (i - at) = omega (arith, v .from) in
       let m : value < 10000000 = below-eight h in
-      let q : decimal (value * 10 + d) ≡ decimal value ++ ((48 + d) ∷ []) = decimal-more value d (v .above) (omega arith) (omega arith) in
+      let q : decimal (value * 10 + d) ≡ decimal value ++ ((48 + d) ∷ []) = decimal-more value d (v .above) (omega arith)
+      (omega arith) in
       let k : i < length s = digit-inside s i d here (omega arith) in
       record {
         from = omega (arith, v .from);
@@ -149,7 +151,9 @@ module _ (s : List ℕ) (at value i : ℕ) (v : Inv s at value i) where
         above = omega (arith, v .above);
         small = rw (n, pow-suc) (omega (arith, v .small));
         count = rw (n, q) (length-append (decimal value) ((48 + d) ∷ []) ∙ omega (arith, v .count));
-        spells = v .spells ∙ ap (λ u. decimal value ++ u) (digit-first s i d here (omega arith)) ∙ sym (rw q (append-assoc (decimal value) ((48 + d) ∷ []) (drop (i + 1) s)));
+        spells =
+            v .spells ∙ ap (λ u. decimal value ++ u) (digit-first s i d here (omega arith))
+            ∙ sym (rw q (append-assoc (decimal value) ((48 + d) ∷ []) (drop (i + 1) s)));
       }
 
   pub whole : (d : ℕ) → d ≡ digitOf (byteAt s i) → 9 < d → NumberAt s at (Value value i)
@@ -157,13 +161,18 @@ module _ (s : List ℕ) (at value i : ℕ) (v : Inv s at value i) where
     where
       only : (n c : ℕ) (rest : List ℕ) → IsNumber n → c ≤ 10 → drop at s ≡ numberBytes n ++ (c ∷ rest) → n ≡ value
       only n c rest h k e =
-          let p : decimal value ≡ decimal n = digits-same (decimal value) (decimal n) (drop i s) c rest (decimal-digits value (omega (arith, below-power))) (decimal-digits n (omega arith)) (no-digit s i d here l) k (sym (v .spells) ∙ e) in
+          let p : decimal value ≡ decimal n = digits-same (decimal value) (decimal n) (drop i s) c rest
+          (decimal-digits value (omega (arith, below-power))) (decimal-digits n (omega arith)) (no-digit s i d here l) k
+          (sym (v .spells) ∙ e) in
           sym (decimal-injective value n (omega (arith, below-power)) (omega arith) p)
 
   pub nine-digits : (d : ℕ) → d ≡ digitOf (byteAt s i) → d < 10 → 8 ≤ i - at → NumberAt s at NoNumber
   nine-digits d here l h n c rest j k e =
       let p : List ℕ = decimal value ++ ((48 + d) ∷ []) in
-      let f : length p ≤ length (decimal n) = digits-fewer p (decimal n) (drop (i + 1) s) c rest (digits-append (decimal value) ((48 + d) ∷ []) (decimal-digits value (omega (arith, below-power))) (omega arith, omega arith, tt)) k (append-assoc (decimal value) ((48 + d) ∷ []) (drop (i + 1) s) ∙ sym (ap (λ u. decimal value ++ u) (digit-first s i d here l)) ∙ sym (v .spells) ∙ e) in
+      let f : length p ≤ length (decimal n) = digits-fewer p (decimal n) (drop (i + 1) s) c rest
+      (digits-append (decimal value) ((48 + d) ∷ []) (decimal-digits value (omega (arith, below-power)))
+      (omega arith, omega arith, tt)) k (append-assoc (decimal value) ((48 + d) ∷ []) (drop (i + 1) s)
+      ∙ sym (ap (λ u. decimal value ++ u) (digit-first s i d here l)) ∙ sym (v .spells) ∙ e) in
       omega (arith, f, decimal-eight n (j .1), v .count, length-append (decimal value) ((48 + d) ∷ []))
 
 pub zero-first : (s : List ℕ) (at d : ℕ) → d ≡ digitOf (byteAt s at) → d ≡ 0 → NumberAt s at NoNumber

@@ -40,6 +40,7 @@ StatementAt s at Spoiled = (n : ℕ) (m : Mark) (rest : List ℕ) → IsNumber n
 
 abbrev pub ObjectionAt : List ℕ → ℕ → Got → Type 0
 ObjectionAt s at (Good (Objection o) next) =
-    IsNumber (o .objector) × IsNumber (o .target) × (at < next) × (next ≤ length s) × (drop at s ≡ objectionTail (o .objector) (o .target) ++ drop next s)
+    IsNumber (o .objector) × IsNumber (o .target) × (at < next) × (next ≤ length s)
+    × (drop at s ≡ objectionTail (o .objector) (o .target) ++ drop next s)
 ObjectionAt s at (Good (Statement st) next) = ⊥
 ObjectionAt s at Spoiled = (y x : ℕ) (rest : List ℕ) → IsNumber y → IsNumber x → drop at s ≡ objectionTail y x ++ rest → ⊥

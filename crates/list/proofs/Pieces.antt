@@ -12,7 +12,8 @@ cut room n start end s m i = record {
   some = s;
   most = m;
   inside = i;
-  joined = ap (λ u. u ++ slice start end room) (sym (take-take start end room (omega arith))) ∙ take-append-drop start (take end room);
+  joined =
+      ap (λ u. u ++ slice start end room) (sym (take-take start end room (omega arith))) ∙ take-append-drop start (take end room);
 }
 
 abbrev pub join : List (List ℕ) → List ℕ
@@ -31,4 +32,5 @@ join-last (first ∷ pieces) piece = ap (λ u. first ++ u) (join-last pieces pie
 pub pieces-joined : (room : List ℕ) (n end : ℕ) (pieces : List (List ℕ)) → Pieces room n end pieces → join pieces ≡ take end room
 pieces-joined room n at pieces none-yet = refl
 pieces-joined room n at pieces (one-more {start} {end} {before} p piece) =
-    join-last before (slice start end room) ∙ ap (λ u. u ++ slice start end room) (pieces-joined room n start before p) ∙ piece .joined
+    join-last before (slice start end room) ∙ ap (λ u. u ++ slice start end room) (pieces-joined room n start before p)
+    ∙ piece .joined

@@ -17,9 +17,13 @@ use Rattle.answer.specs.declared.Answer.the-variants.{Refused, Given}
 use Rattle.list.specs.Output.{Prints}
 
 -- what a room begins with
-begins : (room after l : List ℕ) (n : ℕ) → n ≡ length l → after ≡ l ++ drop (length l) room → (n ≤ length after) × (take n after ≡ l)
-begins room after l n c e =
-    (omega (arith, ap length e, length-append l (drop (length l) room)), ap (λ k. take k after) c ∙ ap (take (length l)) e ∙ take-append-seam l (drop (length l) room))
+begins : (room after l : List ℕ) (n : ℕ) → n ≡ length l → after ≡ l ++ drop (length l) room → (n ≤ length after)
+    × (take n after ≡ l)
+begins room after l n c e = (
+  omega (arith, ap length e, length-append l (drop (length l) room)),
+  ap (λ k. take k after) c ∙ ap (take (length l)) e
+      ∙ take-append-seam l (drop (length l) room),
+)
 
 module _ (s room after : List ℕ) where
   pub prints-listing : (n : ℕ) → TextListing s room (Given n) after → (n ≤ length after) × Prints s (take n after)
@@ -32,13 +36,17 @@ module _ (s room after : List ℕ) where
   refused-text r h (inl p, q) = p
   refused-text r h (inr (R, a, ((l, is, short), e)), q) = absurd (omega (arith, listing-short s R l a is))
 
-  pub prints-refusal : (r : Refusal) (k : ℕ) (printed : List ℕ) → 131072 ≤ length room → TextListing s room (Refused r) after → k ≡ length (refusedRow (numberOf r) (placeOf r)) → printed ≡ refusedRow (numberOf r) (placeOf r) ++ drop (length (refusedRow (numberOf r) (placeOf r))) after → (k ≤ length printed) × Prints s (take k printed)
+  pub prints-refusal : (r : Refusal) (k : ℕ) (printed : List ℕ) → 131072 ≤ length room → TextListing s room (Refused r) after
+      → k ≡ length (refusedRow (numberOf r) (placeOf r)) → printed ≡ refusedRow (numberOf r) (placeOf r) ++ drop
+      (length (refusedRow (numberOf r) (placeOf r))) after → (k ≤ length printed) × Prints s (take k printed)
   prints-refusal r k printed h p c e =
       let (fits, same) = begins after printed (refusedRow (numberOf r) (placeOf r)) k c e in
       (fits, inr (r, refused-text r h p, same))
 
 pub printed-once : (s a b : List ℕ) → Prints s a → Prints s b → a ≡ b
-printed-once s a b (inl (R, p, is)) (inl (Q, q, isn)) = listing-once R a b is (subst (λ T. IsListing T b) (text.accepts-once s Q R q p) isn)
+printed-once s a b (inl (R, p, is)) (inl (Q, q, isn)) =
+    listing-once R a b is (subst (λ T. IsListing T b) (text.accepts-once s Q R q p) isn)
 printed-once s a b (inl (R, p, is)) (inr (r, q, e)) = absurd (text.not-both s R r p q)
 printed-once s a b (inr (r, p, e)) (inl (R, q, is)) = absurd (text.not-both s R r q p)
-printed-once s a b (inr (r, p, e)) (inr (t, q, f)) = e ∙ ap (λ u. refusedRow (numberOf u) (placeOf u)) (text.refuses-once s r t p q) ∙ sym f
+printed-once s a b (inr (r, p, e)) (inr (t, q, f)) =
+    e ∙ ap (λ u. refusedRow (numberOf u) (placeOf u)) (text.refuses-once s r t p q) ∙ sym f

@@ -16,4 +16,5 @@ pub record Piece (room : List ℕ) (n start end : ℕ) : Type 0 where
 -- pieces, one after the other, up to a place
 pub data Pieces (room : List ℕ) (n : ℕ) : ℕ → List (List ℕ) → Type 0 where
   none-yet : Pieces room n 0 []
-  one-more : {start end : ℕ} {before : List (List ℕ)} → Pieces room n start before → Piece room n start end → Pieces room n end (before ++ (slice start end room ∷ []))
+  one-more : {start end : ℕ} {before : List (List ℕ)} → Pieces room n start before → Piece room n start end
+      → Pieces room n end (before ++ (slice start end room ∷ []))

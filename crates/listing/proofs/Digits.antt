@@ -22,7 +22,8 @@ unfolding decimalIn
 within zero n = omega arith
 within (suc f) n = go (ltb n 10) (within f (n / 10))
   where
-    go : (b : Bool) → length (decimalIn f (n / 10)) ≤ f → length (pick b ((48 + n) ∷ []) (decimalIn f (n / 10) ++ ((48 + n % 10) ∷ []))) ≤ suc f
+    go : (b : Bool) → length (decimalIn f (n / 10)) ≤ f → length
+        (pick b ((48 + n) ∷ []) (decimalIn f (n / 10) ++ ((48 + n % 10) ∷ []))) ≤ suc f
     go true i = omega arith
     go false i = omega (arith, length-append (decimalIn f (n / 10)) ((48 + n % 10) ∷ []))
 
@@ -39,4 +40,6 @@ shorter k n h i = go (decLt n 10)
     go (no l) = omega (arith, digit-more n (omega arith) h, i (omega arith))
 
 pub four-digits : (n : ℕ) → n < 10000 → length (decimal n) ≤ 4
-four-digits n h = shorter 3 n (omega arith) (λ a. shorter 2 (n / 10) a (λ b. shorter 1 (n / 10 / 10) b (λ c. omega (arith, one-digit (n / 10 / 10 / 10) (omega arith)))))
+four-digits n h =
+    shorter 3 n (omega arith) (λ a. shorter 2 (n / 10) a (λ b. shorter 1 (n / 10 / 10) b
+    (λ c. omega (arith, one-digit (n / 10 / 10 / 10) (omega arith)))))

@@ -35,12 +35,14 @@ listing-once R l l′ a b =
     verdicts-same : a .verdicts ≡ b .verdicts
     verdicts-same =
         ext-getD is-open (a .verdicts) (b .verdicts) (a .verdict-each ∙ sym (b .verdict-each))
-        (λ x h. means-unique (book R) x (getD (a .verdicts) x is-open) (getD (b .verdicts) x is-open) (a .means x (omega (arith, a .verdict-each))) (b .means x (omega (arith, a .verdict-each))))
+        (λ x h. means-unique (book R) x (getD (a .verdicts) x is-open) (getD (b .verdicts) x is-open)
+        (a .means x (omega (arith, a .verdict-each))) (b .means x (omega (arith, a .verdict-each))))
 
     kinds-same : a .kinds ≡ b .kinds
     kinds-same =
         ext-getD Idle (a .kinds) (b .kinds) (a .kind-each ∙ sym (b .kind-each))
-        (λ k h. kind-unique (book R) (getD (objectorsOf R) k 0) (getD (targetsOf R) k 0) (getD (a .kinds) k Idle) (getD (b .kinds) k Idle) (a .of-kind k (omega (arith, a .kind-each))) (b .of-kind k (omega (arith, a .kind-each))))
+        (λ k h. kind-unique (book R) (getD (objectorsOf R) k 0) (getD (targetsOf R) k 0) (getD (a .kinds) k Idle)
+        (getD (b .kinds) k Idle) (a .of-kind k (omega (arith, a .kind-each))) (b .of-kind k (omega (arith, a .kind-each))))
 
 -- a length up to 1,023, and one more than that, has at most 4 digits
 verdict-short : (v : Verdict) → Within 1023 v → length (lengthField v) ≤ 4
@@ -65,17 +67,31 @@ kind-short is-open (falls m) h = omega arith
 kind-short is-open is-open h = omega arith
 
 -- a row is a little longer than its line
-statement-longer : (st : StatementLine) (v : Verdict) → length (lengthField v) ≤ 4 → length (statementRow (st .number) v) ≤ length (lineBytes (Statement st)) + 8
-statement-longer st v h = omega (arith, statement-length (st .number) v, fields v h, length-append (decimal (st .number)) (9 ∷ markByte (st .mark) ∷ 10 ∷ []))
+statement-longer : (st : StatementLine) (v : Verdict) → length (lengthField v) ≤ 4
+    → length (statementRow (st .number) v) ≤ length (lineBytes (Statement st)) + 8
+statement-longer st v h =
+    omega (
+      arith,
+      statement-length (st .number) v,
+      fields v h,
+      length-append (decimal (st .number)) (9 ∷ markByte (st .mark) ∷ 10 ∷ []),
+    )
   where
     fields : (v : Verdict) → length (lengthField v) ≤ 4 → length (verdictFields v) ≤ 11
     fields is-open h = omega arith
     fields (stands n) h = omega arith
     fields (falls n) h = omega arith
 
-objection-longer : (o : ObjectionLine) (κ : Kind) → length (kindField κ) ≤ 4 → length (objectionRow (o .objector) (o .target) κ) ≤ length (lineBytes (Objection o)) + 12
+objection-longer : (o : ObjectionLine) (κ : Kind) → length (kindField κ) ≤ 4
+    → length (objectionRow (o .objector) (o .target) κ) ≤ length (lineBytes (Objection o)) + 12
 objection-longer o κ h =
-    omega (arith, objection-length (o .objector) (o .target) κ, fields κ h, length-append (decimal (o .objector)) (9 ∷ (decimal (o .target) ++ (10 ∷ []))), length-append (decimal (o .target)) (10 ∷ []))
+    omega (
+      arith,
+      objection-length (o .objector) (o .target) κ,
+      fields κ h,
+      length-append (decimal (o .objector)) (9 ∷ (decimal (o .target) ++ (10 ∷ []))),
+      length-append (decimal (o .target)) (10 ∷ []),
+    )
   where
     fields : (κ : Kind) → length (kindField κ) ≤ 4 → length (kindFields κ) ≤ 13
     fields Idle h = omega arith
@@ -83,29 +99,61 @@ objection-longer o κ h =
     fields (Delaying n) h = omega arith
     fields Standoff h = omega arith
 
-statements-short : (S : List StatementLine) (vs : List Verdict) → ((i : ℕ) → i < length S → length (lengthField (getD vs i is-open)) ≤ 4) → length (statementRows S vs) ≤ length (bytes (map Statement S)) + 8 * length S
+statements-short : (S : List StatementLine) (vs : List Verdict)
+    → ((i : ℕ) → i < length S → length (lengthField (getD vs i is-open)) ≤ 4)
+    → length (statementRows S vs) ≤ length (bytes (map Statement S)) + 8 * length S
 unfolding statementRows bytes
 statements-short [] vs h = omega arith
 statements-short (st ∷ S) [] h = omega arith
 statements-short (st ∷ S) (v ∷ vs) h =
-    omega (arith, length-append (statementRow (st .number) v) (statementRows S vs), length-append (lineBytes (Statement st)) (bytes (map Statement S)), statement-longer st v (h 0 (omega arith)), statements-short S vs (λ i l. h (suc i) (omega arith)))
+    omega (
+      arith,
+      length-append (statementRow (st .number) v) (statementRows S vs),
+      length-append (lineBytes (Statement st)) (bytes (map Statement S)),
+      statement-longer st v (h 0 (omega arith)),
+      statements-short S vs (λ i l. h (suc i) (omega arith)),
+    )
 
-objections-short : (O : List ObjectionLine) (κs : List Kind) → ((k : ℕ) → k < length O → length (kindField (getD κs k Idle)) ≤ 4) → length (objectionRows O κs) ≤ length (bytes (map Objection O)) + 12 * length O
+objections-short : (O : List ObjectionLine) (κs : List Kind) → ((k : ℕ) → k < length O → length (kindField (getD κs k Idle)) ≤ 4)
+    → length (objectionRows O κs) ≤ length (bytes (map Objection O)) + 12 * length O
 unfolding objectionRows bytes
 objections-short [] κs h = omega arith
 objections-short (o ∷ O) [] h = omega arith
 objections-short (o ∷ O) (κ ∷ κs) h =
-    omega (arith, length-append (objectionRow (o .objector) (o .target) κ) (objectionRows O κs), length-append (lineBytes (Objection o)) (bytes (map Objection O)), objection-longer o κ (h 0 (omega arith)), objections-short O κs (λ k l. h (suc k) (omega arith)))
+    omega (
+      arith,
+      length-append (objectionRow (o .objector) (o .target) κ) (objectionRows O κs),
+      length-append (lineBytes (Objection o)) (bytes (map Objection O)),
+      objection-longer o κ (h 0 (omega arith)),
+      objections-short O κs (λ k l. h (suc k) (omega arith)),
+    )
 
 bytes-length : (ls ms : List Line) → length (bytes (ls ++ ms)) ≡ length (bytes ls) + length (bytes ms)
 unfolding bytes
 bytes-length [] ms = omega arith
-bytes-length (l ∷ ls) ms = omega (arith, length-append (lineBytes l) (bytes (ls ++ ms)), length-append (lineBytes l) (bytes ls), bytes-length ls ms)
+bytes-length (l ∷ ls) ms =
+    omega (arith, length-append (lineBytes l) (bytes (ls ++ ms)), length-append (lineBytes l) (bytes ls), bytes-length ls ms)
 
 pub listing-short : (s : List ℕ) (R : Register) (l : List ℕ) → Accepts s R → IsListing R l → length l ≤ 131072
 unfolding bookOf shown
 listing-short s R l a b =
-    omega (arith, ap length (b .is), length-append (header n m) (statementRows (R .statements) (b .verdicts) ++ objectionRows (R .objections) (b .kinds)), length-append (statementRows (R .statements) (b .verdicts)) (objectionRows (R .objections) (b .kinds)), header-length n m, four-digits n (omega arith), four-digits m (omega arith), statements-short (R .statements) (b .verdicts) verdicts-short, objections-short (R .objections) (b .kinds) kinds-short, ap length (a .is-written), bytes-length (map Statement (R .statements)) (map Objection (R .objections)), a .fits, a .valid .few-statements, a .valid .few-objections)
+    omega (
+      arith,
+      ap length (b .is),
+      length-append (header n m)
+          (statementRows (R .statements) (b .verdicts) ++ objectionRows (R .objections) (b .kinds)),
+      length-append (statementRows (R .statements) (b .verdicts)) (objectionRows (R .objections) (b .kinds)),
+      header-length n m,
+      four-digits n (omega arith),
+      four-digits m (omega arith),
+      statements-short (R .statements) (b .verdicts) verdicts-short,
+      objections-short (R .objections) (b .kinds) kinds-short,
+      ap length (a .is-written),
+      bytes-length (map Statement (R .statements)) (map Objection (R .objections)),
+      a .fits,
+      a .valid .few-statements,
+      a .valid .few-objections,
+    )
   where
     n : ℕ
     n = length (R .statements)
@@ -125,9 +173,11 @@ listing-short s R l a b =
     listed x h = omega (arith, marks-counted R (a .valid))
 
     verdicts-short : (x : ℕ) → x < length (R .statements) → length (lengthField (getD (b .verdicts) x is-open)) ≤ 4
-    verdicts-short x h = verdict-short (getD (b .verdicts) x is-open) (size-is x (listed x h) (getD (b .verdicts) x is-open) (b .means x h))
+    verdicts-short x h =
+        verdict-short (getD (b .verdicts) x is-open) (size-is x (listed x h) (getD (b .verdicts) x is-open) (b .means x h))
 
     kinds-short : (k : ℕ) → k < length (R .objections) → length (kindField (getD (b .kinds) k Idle)) ≤ 4
     kinds-short k h =
         let o : OfKind (book R) (getD (objectorsOf R) k 0) (getD (targetsOf R) k 0) (getD (b .kinds) k Idle) = b .of-kind k h in
-        subst (λ u. length (shown u) ≤ 4) (o .is) (kind-short (o .target) (o .objector) (size-is (getD (objectorsOf R) k 0) (o .objects .0) (o .objector) (o .objector-means)))
+        subst (λ u. length (shown u) ≤ 4) (o .is) (kind-short (o .target) (o .objector)
+        (size-is (getD (objectorsOf R) k 0) (o .objects .0) (o .objector) (o .objector-means)))

@@ -22,17 +22,22 @@ module _ (room : List ℕ) (at : ℕ) (p : List ℕ) (fits : Fits room at p) whe
 
   behind : (n : ℕ) → drop ((at + length p) + n) (written room at p) ≡ drop ((at + length p) + n) room
   behind n =
-      ap (drop ((at + length p) + n)) parted ∙ ap (λ k. drop (k + n) ((take at room ++ p) ++ drop (at + length p) room)) (sym front-length)
+      ap (drop ((at + length p) + n)) parted ∙ ap (λ k. drop (k + n) ((take at room ++ p) ++ drop (at + length p) room))
+      (sym front-length)
       ∙ drop-append-add (take at room ++ p) (drop (at + length p) room) n ∙ drop-drop n (at + length p) room
 
   written-more : (q : List ℕ) → written (written room at p) (at + length p) q ≡ written room at (p ++ q)
   written-more q =
-      ap (λ u. u ++ (q ++ drop ((at + length p) + length q) (written room at p))) front ∙ ap (λ u. (take at room ++ p) ++ (q ++ u)) (behind (length q))
-      ∙ append-assoc (take at room) p (q ++ drop ((at + length p) + length q) room) ∙ ap (λ u. take at room ++ u) (sym (append-assoc p q (drop ((at + length p) + length q) room)))
-      ∙ ap (λ n. take at room ++ ((p ++ q) ++ drop n room)) (let e : (at + length p) + length q ≡ at + length (p ++ q) = omega (arith, length-append p q) in e)
+      ap (λ u. u ++ (q ++ drop ((at + length p) + length q) (written room at p))) front
+      ∙ ap (λ u. (take at room ++ p) ++ (q ++ u)) (behind (length q))
+      ∙ append-assoc (take at room) p (q ++ drop ((at + length p) + length q) room)
+      ∙ ap (λ u. take at room ++ u) (sym (append-assoc p q (drop ((at + length p) + length q) room)))
+      ∙ ap (λ n. take at room ++ ((p ++ q) ++ drop n room)) (let e : (at + length p) + length q ≡ at + length (p ++ q) = omega
+      (arith, length-append p q) in e)
 
   -- more bytes behind those that were put
-  pub put-more : {end : ℕ} {room′ : List ℕ} (q : List ℕ) {end′ : ℕ} {room″ : List ℕ} → Put room at p end room′ → Put room′ end q end′ room″ → Put room at (p ++ q) end′ room″
+  pub put-more : {end : ℕ} {room′ : List ℕ} (q : List ℕ) {end′ : ℕ} {room″ : List ℕ} → Put room at p end room′
+      → Put room′ end q end′ room″ → Put room at (p ++ q) end′ room″
   put-more {end} {room′} q {end′} {room″} a b = record {
     ends = omega (arith, a .ends, b .ends, length-append p q);
     is = b .is ∙ ap (λ u. written u end q) (a .is) ∙ ap (λ n. written (written room at p) n q) (a .ends) ∙ written-more q;
@@ -48,13 +53,16 @@ put-one room at b h = record { ends = refl; is = stored }
     stored : set room at b ≡ written room at (b ∷ [])
     stored =
         ap (λ l. set l at b) (sym (take-append-drop at room) ∙ ap (λ u. take at room ++ u) (drop-cons room at 0 h))
-        ∙ set-at (take at room) (getD room at 0) (drop (suc at) room) b at (length-take-le at room (omega arith)) ∙ ap (λ n. take at room ++ (b ∷ drop n room)) (sym (add-one at))
+        ∙ set-at (take at room) (getD room at 0) (drop (suc at) room) b at (length-take-le at room (omega arith))
+        ∙ ap (λ n. take at room ++ (b ∷ drop n room)) (sym (add-one at))
 
 -- One byte of a word more, and the whole word.
-module _ (room : List ℕ) (at : ℕ) (word : List ℕ) (fits : Fits room at word) (i end : ℕ) (room′ : List ℕ) (put : Put room at (take i word) end room′) where
+module _ (room : List ℕ) (at : ℕ) (word : List ℕ) (fits : Fits room at word) (i end : ℕ) (room′ : List ℕ)
+    (put : Put room at (take i word) end room′) where
   pub put-next : i < length word → end < length room′ → Put room at (take (i + 1) word) (end + 1) (set room′ end (getD word i 0))
   put-next h k =
-      rw (add-one, take-suc word i 0 h) (put-more room at (take i word) (omega (arith, length-take-le i word (omega arith))) (getD word i 0 ∷ []) put (put-one room′ end (getD word i 0) k))
+      rw (add-one, take-suc word i 0 h) (put-more room at (take i word) (omega (arith, length-take-le i word (omega arith)))
+      (getD word i 0 ∷ []) put (put-one room′ end (getD word i 0) k))
 
   pub put-all : length word ≤ i → Put room at word end room′
   put-all h = rw (take-all i word h) at put

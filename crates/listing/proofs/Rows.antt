@@ -17,29 +17,35 @@ use Rattle.listing.specs.Room.{verdictFields, kindFields, verdictAt, kin
 use Rattle.listing.proofs.Digits.{ten-digits}
 
 -- The rows as the program puts them together, piece by piece.
-pub numbers-pieces : (word : List ℕ) (n m : ℕ) → ((((word ++ (9 ∷ [])) ++ decimal n) ++ (9 ∷ [])) ++ decimal m) ++ (10 ∷ []) ≡ numbersRow word n m
+pub numbers-pieces : (word : List ℕ) (n m : ℕ) → ((((word ++ (9 ∷ [])) ++ decimal n) ++ (9 ∷ [])) ++ decimal m) ++
+    (10 ∷ []) ≡ numbersRow word n m
 unfolding numbersRow
 numbers-pieces word n m = simp append-assoc
 
-pub statement-pieces : (number : ℕ) (v : Verdict) → ((decimal number ++ (9 ∷ [])) ++ verdictFields v) ++ (10 ∷ []) ≡ statementRow number v
+pub statement-pieces : (number : ℕ) (v : Verdict) → ((decimal number ++ (9 ∷ [])) ++ verdictFields v) ++ (10 ∷ []) ≡ statementRow
+    number v
 unfolding statementRow
 statement-pieces number v = simp append-assoc
 
-pub objection-pieces : (y x : ℕ) (κ : Kind) → ((((decimal y ++ (9 ∷ [])) ++ decimal x) ++ (9 ∷ [])) ++ kindFields κ) ++ (10 ∷ []) ≡ objectionRow y x κ
+pub objection-pieces : (y x : ℕ) (κ : Kind) → ((((decimal y ++ (9 ∷ [])) ++ decimal x) ++ (9 ∷ [])) ++ kindFields κ) ++
+    (10 ∷ []) ≡ objectionRow y x κ
 unfolding objectionRow
 objection-pieces y x κ = simp append-assoc
 
 -- How long they are.
-pub numbers-length : (word : List ℕ) (n m : ℕ) → length (numbersRow word n m) ≡ length word + length (decimal n) + length (decimal m) + 3
+pub numbers-length : (word : List ℕ) (n m : ℕ) → length (numbersRow word n m) ≡ length word + length (decimal n) + length
+    (decimal m) + 3
 numbers-length word n m = rw (← numbers-pieces word n m) (simp length-append (omega arith))
 
 pub header-length : (n m : ℕ) → length (header n m) ≡ length (decimal n) + length (decimal m) + 11
 header-length n m = omega (arith, numbers-length registerWord n m)
 
-pub statement-length : (number : ℕ) (v : Verdict) → length (statementRow number v) ≡ length (decimal number) + length (verdictFields v) + 2
+pub statement-length : (number : ℕ) (v : Verdict) → length (statementRow number v) ≡ length (decimal number) + length
+    (verdictFields v) + 2
 statement-length number v = rw (← statement-pieces number v) (simp length-append (omega arith))
 
-pub objection-length : (y x : ℕ) (κ : Kind) → length (objectionRow y x κ) ≡ length (decimal y) + length (decimal x) + length (kindFields κ) + 3
+pub objection-length : (y x : ℕ) (κ : Kind) → length (objectionRow y x κ) ≡ length (decimal y) + length (decimal x) + length
+    (kindFields κ) + 3
 objection-length y x κ = rw (← objection-pieces y x κ) (simp length-append (omega arith))
 
 pub verdict-small : (v : Verdict) → length (verdictFields v) ≤ 17
@@ -84,7 +90,9 @@ module _ (row : ℕ → List ℕ) where
     where
       go : (d m : ℕ) → n + d ≡ m → length (rowsTo n row) ≤ length (rowsTo m row)
       go zero m e = let q : n ≡ m = omega arith in rw q (omega arith)
-      go (suc d) m e = let q : m ≡ (n + d) + 1 = omega arith in rw q (let i : length (rowsTo n row) ≤ length (rowsTo (n + d) row) = go d (n + d) refl in omega (arith, rows-longer (n + d)))
+      go (suc d) m e =
+          let q : m ≡ (n + d) + 1 = omega arith in rw q (let i : length (rowsTo n row) ≤ length (rowsTo (n + d) row) = go d
+          (n + d) refl in omega (arith, rows-longer (n + d)))
 
   rows-small : ((i : ℕ) → length (row i) ≤ 64) → (n : ℕ) → length (rowsTo n row) ≤ 64 * n
   unfolding rowsTo
@@ -122,34 +130,46 @@ module _ {A : Type 0} where
   getD-upTo (suc n) f d (suc i) h = getD-upTo n (λ j. f (suc j)) d i (omega arith)
 
 -- The rows of the lists, one by one.
-pub statement-rows : (S : List StatementLine) (v : ℕ → Verdict) → statementRows S (upTo (length S) v) ≡ rowsTo (length S) (λ i. statementRow (getD (map (λ (st : StatementLine). st .number) S) i 0) (v i))
+pub statement-rows : (S : List StatementLine) (v : ℕ → Verdict)
+    → statementRows S (upTo (length S) v) ≡ rowsTo (length S)
+    (λ i. statementRow (getD (map (λ (st : StatementLine). st .number) S) i 0) (v i))
 unfolding statementRows
 statement-rows [] v = sym (no-rows (λ i. statementRow 0 (v i)))
 statement-rows (st ∷ S) v =
     ap (λ u. statementRow (st .number) (v 0) ++ u) (statement-rows S (λ i. v (suc i)))
     ∙ sym (row-first (λ i. statementRow (getD (map (λ (st : StatementLine). st .number) (st ∷ S)) i 0) (v i)) (length S))
 
-pub objection-rows : (O : List ObjectionLine) (κ : ℕ → Kind) → objectionRows O (upTo (length O) κ) ≡ rowsTo (length O) (λ k. objectionRow (getD (map (λ (o : ObjectionLine). o .objector) O) k 0) (getD (map (λ (o : ObjectionLine). o .target) O) k 0) (κ k))
+pub objection-rows : (O : List ObjectionLine) (κ : ℕ → Kind)
+    → objectionRows O (upTo (length O) κ) ≡ rowsTo (length O)
+    (λ k. objectionRow (getD (map (λ (o : ObjectionLine). o .objector) O) k 0)
+    (getD (map (λ (o : ObjectionLine). o .target) O) k 0) (κ k))
 unfolding objectionRows
 objection-rows [] κ = sym (no-rows (λ k. objectionRow 0 0 (κ k)))
 objection-rows (o ∷ O) κ =
     ap (λ u. objectionRow (o .objector) (o .target) (κ 0) ++ u) (objection-rows O (λ k. κ (suc k)))
-    ∙ sym (row-first (λ k. objectionRow (getD (map (λ (o : ObjectionLine). o .objector) (o ∷ O)) k 0) (getD (map (λ (o : ObjectionLine). o .target) (o ∷ O)) k 0) (κ k)) (length O))
+    ∙ sym (row-first (λ k. objectionRow (getD (map (λ (o : ObjectionLine). o .objector) (o ∷ O)) k 0)
+    (getD (map (λ (o : ObjectionLine). o .target) (o ∷ O)) k 0) (κ k)) (length O))
 
 -- The parts of the listing that the program counts are not long.
 module _ (nums labels lengths : List ℕ) where
   pub statements-small : (n : ℕ) → length (rowsTo n (statementAt nums labels lengths)) ≤ 64 * n
-  statements-small = rows-small (statementAt nums labels lengths) (λ i. statement-small (getD nums i 0) (verdictAt labels lengths i))
+  statements-small =
+      rows-small (statementAt nums labels lengths) (λ i. statement-small (getD nums i 0) (verdictAt labels lengths i))
 
-  pub objections-small : (objectors targets : List ℕ) (m : ℕ) → length (rowsTo m (objectionAt nums objectors targets labels lengths)) ≤ 64 * m
-  objections-small objectors targets = rows-small (objectionAt nums objectors targets labels lengths) (λ k. objection-small (getD nums (getD objectors k 0) 0) (getD nums (getD targets k 0) 0) (kindAt objectors targets labels lengths k))
+  pub objections-small : (objectors targets : List ℕ) (m : ℕ)
+      → length (rowsTo m (objectionAt nums objectors targets labels lengths)) ≤ 64 * m
+  objections-small objectors targets =
+      rows-small (objectionAt nums objectors targets labels lengths)
+      (λ k. objection-small (getD nums (getD objectors k 0) 0) (getD nums (getD targets k 0) 0)
+      (kindAt objectors targets labels lengths k))
 
   -- all rows, once the last was passed
   pub statements-all : (n : ℕ) → n ≡ length nums → rowsTo n (statementAt nums labels lengths) ≡ statementPart nums labels lengths
   unfolding statementPart
   statements-all n e = ap (λ k. rowsTo k (statementAt nums labels lengths)) e
 
-  pub objections-all : (objectors targets : List ℕ) (m : ℕ) → m ≡ length objectors → rowsTo m (objectionAt nums objectors targets labels lengths) ≡ objectionPart nums objectors targets labels lengths
+  pub objections-all : (objectors targets : List ℕ) (m : ℕ) → m ≡ length objectors
+      → rowsTo m (objectionAt nums objectors targets labels lengths) ≡ objectionPart nums objectors targets labels lengths
   unfolding objectionPart
   objections-all objectors targets m e = ap (λ k. rowsTo k (objectionAt nums objectors targets labels lengths)) e
 
@@ -157,11 +177,19 @@ module _ (nums labels lengths : List ℕ) where
   unfolding statementPart
   statement-part-small = statements-small (length nums)
 
-  pub objection-part-small : (objectors targets : List ℕ) → length (objectionPart nums objectors targets labels lengths) ≤ 64 * length objectors
+  pub objection-part-small : (objectors targets : List ℕ) → length
+      (objectionPart nums objectors targets labels lengths) ≤ 64 * length objectors
   unfolding objectionPart
   objection-part-small objectors targets = objections-small objectors targets (length objectors)
 
-  pub whole-length : (objectors targets : List ℕ) → length (whole nums objectors targets labels lengths) ≡ length (header (length nums) (length objectors)) + length (statementPart nums labels lengths) + length (objectionPart nums objectors targets labels lengths)
+  pub whole-length : (objectors targets : List ℕ) → length (whole nums objectors targets labels lengths) ≡ length
+      (header (length nums) (length objectors)) + length (statementPart nums labels lengths) + length
+      (objectionPart nums objectors targets labels lengths)
   unfolding whole
   whole-length objectors targets =
-      omega (arith, length-append (header (length nums) (length objectors)) (statementPart nums labels lengths ++ objectionPart nums objectors targets labels lengths), length-append (statementPart nums labels lengths) (objectionPart nums objectors targets labels lengths))
+      omega (
+        arith,
+        length-append (header (length nums) (length objectors))
+            (statementPart nums labels lengths ++ objectionPart nums objectors targets labels lengths),
+        length-append (statementPart nums labels lengths) (objectionPart nums objectors targets labels lengths),
+      )

@@ -53,42 +53,54 @@ module _ (nums marks objectors targets labels lengths : List ℕ) (given : Lists
   verdict-told : (x : ℕ) → x < length marks → Means B x (verdictAt labels lengths x)
   verdict-told x h =
       let t : Told B x (getD labels x 0) (getD lengths x 0) = given .labelled .told x (listed x h) in
-      subst (λ v. Means B x v) (sym (told-said (t .verdict) (getD labels x 0) (getD lengths x 0) (t .label-is) (t .length-is))) (t .means)
+      subst (λ v. Means B x v) (sym (told-said (t .verdict) (getD labels x 0) (getD lengths x 0) (t .label-is) (t .length-is)))
+      (t .means)
 
   -- the kind of an entry is that of the table
-  kind-told : (k : ℕ) (κ : Kind) → k < length objectors → OfKind B (getD objectors k 0) (getD targets k 0) κ → κ ≡ kindAt objectors targets labels lengths k
+  kind-told : (k : ℕ) (κ : Kind) → k < length objectors → OfKind B (getD objectors k 0) (getD targets k 0) κ
+      → κ ≡ kindAt objectors targets labels lengths k
   kind-told k κ h o =
       let y : ℕ = getD objectors k 0 in
       let x : ℕ = getD targets k 0 in
-      let t : o .target ≡ verdictAt labels lengths x = means-unique B x (o .target) (verdictAt labels lengths x) (o .target-means) (verdict-told x (given .handed .order .target k h)) in
-      let s : o .objector ≡ verdictAt labels lengths y = means-unique B y (o .objector) (verdictAt labels lengths y) (o .objector-means) (verdict-told y (given .handed .order .objector k h)) in
+      let t : o .target ≡ verdictAt labels lengths x = means-unique B x (o .target) (verdictAt labels lengths x) (o .target-means)
+      (verdict-told x (given .handed .order .target k h)) in
+      let s : o .objector ≡ verdictAt labels lengths y = means-unique B y (o .objector) (verdictAt labels lengths y)
+      (o .objector-means) (verdict-told y (given .handed .order .objector k h)) in
       sym (ap orIdle (ap₂ kindOf (sym t) (sym s) ∙ o .is))
 
-  pub row-told : (k y x : ℕ) (κ : Kind) → k < length objectors → y ≡ getD objectors k 0 → x ≡ getD targets k 0 → OfKind B (getD objectors k 0) (getD targets k 0) κ → objectionRow (getD nums y 0) (getD nums x 0) κ ≡ objectionAt nums objectors targets labels lengths k
-  row-told k y x κ h p q o = rw (p, q) (ap (objectionRow (getD nums (getD objectors k 0) 0) (getD nums (getD targets k 0) 0)) (kind-told k κ h o))
+  pub row-told : (k y x : ℕ) (κ : Kind) → k < length objectors → y ≡ getD objectors k 0 → x ≡ getD targets k 0
+      → OfKind B (getD objectors k 0) (getD targets k 0) κ → objectionRow (getD nums y 0) (getD nums x 0) κ ≡ objectionAt nums
+      objectors targets labels lengths k
+  row-told k y x κ h p q o =
+      rw (p, q) (ap (objectionRow (getD nums (getD objectors k 0) 0) (getD nums (getD targets k 0) 0)) (kind-told k κ h o))
 
-  kind-of-entry : (k : ℕ) → k < length objectors → OfKind B (getD objectors k 0) (getD targets k 0) (kindAt objectors targets labels lengths k)
+  kind-of-entry : (k : ℕ) → k < length objectors → OfKind B (getD objectors k 0) (getD targets k 0)
+      (kindAt objectors targets labels lengths k)
   kind-of-entry k h =
-      let objects : Objects B (getD objectors k 0) (getD targets k 0) = objects-entry marks objectors targets (getD objectors k 0) (getD targets k 0) .1 (given .handed .order .objector k h, (k, (h, refl, refl))) in
-      let (κ, o) = kind-exists B (getD objectors k 0) (getD targets k 0) (listed (getD targets k 0) (given .handed .order .target k h)) objects in
+      let objects : Objects B (getD objectors k 0) (getD targets k 0) = objects-entry marks objectors targets (getD objectors k 0)
+      (getD targets k 0) .1 (given .handed .order .objector k h, (k, (h, refl, refl))) in
+      let (κ, o) = kind-exists B (getD objectors k 0) (getD targets k 0)
+      (listed (getD targets k 0) (given .handed .order .target k h)) objects in
       subst (λ κ. OfKind B (getD objectors k 0) (getD targets k 0) κ) (kind-told k κ h o) o
 
-module _ (R : Register) (nums marks objectors targets labels lengths : List ℕ) (ready : Ready R nums marks objectors targets labels lengths) where
+module _ (R : Register) (nums marks objectors targets labels lengths : List ℕ)
+    (ready : Ready R nums marks objectors targets labels lengths) where
   numbers-counted : length (numbers R) ≡ length (R .statements)
   numbers-counted = length-map (R .statements) (λ (st : StatementLine). st .number)
 
   pub ready-lists : Lists nums marks objectors targets labels lengths
-  ready-lists = rw (ready .made .numbers-are, ready .made .marks-are, ready .made .objectors-are, ready .made .targets-are) (record {
-    handed = record {
-      few-marks = omega (arith, marks-counted R (ready .made .valid), ready .made .valid .few-statements);
-      few-pairs = omega (arith, objectors-counted R (ready .made .valid), ready .made .valid .few-objections);
-      order = register-in-order R (ready .made .valid);
-    };
-    numbered = numbers-counted ∙ sym (marks-counted R (ready .made .valid));
-    labels-room = omega (arith, marks-counted R (ready .made .valid), ready .labels-room);
-    lengths-room = omega (arith, marks-counted R (ready .made .valid), ready .lengths-room);
-    labelled = ready .labelled;
-  })
+  ready-lists =
+      rw (ready .made .numbers-are, ready .made .marks-are, ready .made .objectors-are, ready .made .targets-are) (record {
+        handed = record {
+          few-marks = omega (arith, marks-counted R (ready .made .valid), ready .made .valid .few-statements);
+          few-pairs = omega (arith, objectors-counted R (ready .made .valid), ready .made .valid .few-objections);
+          order = register-in-order R (ready .made .valid);
+        };
+        numbered = numbers-counted ∙ sym (marks-counted R (ready .made .valid));
+        labels-room = omega (arith, marks-counted R (ready .made .valid), ready .labels-room);
+        lengths-room = omega (arith, marks-counted R (ready .made .valid), ready .lengths-room);
+        labelled = ready .labelled;
+      })
 
   own : Lists (numbers R) (marksOf R) (objectorsOf R) (targetsOf R) labels lengths
   own = rw (ready .made .numbers-are, ready .made .marks-are, ready .made .objectors-are, ready .made .targets-are) at ready-lists
@@ -106,17 +118,22 @@ module _ (R : Register) (nums marks objectors targets labels lengths : List ℕ)
 
   at-place : (v : ℕ) → Issued R v → getD (numbers R) (placeOf (numbers R) v) 0 ≡ v
   at-place v (i, l, e) =
-      ap (λ p. getD (numbers R) p 0) (place-is R (length (R .statements)) (length (R .objections)) (numbers R) (marksOf R) (objectorsOf R) (targetsOf R) holds v i (omega (arith, numbers-counted), e) (λ j k q. ready .made .valid .once j i k l (q ∙ sym e)))
+      ap (λ p. getD (numbers R) p 0) (place-is R (length (R .statements)) (length (R .objections)) (numbers R) (marksOf R)
+      (objectorsOf R) (targetsOf R) holds v i (omega (arith, numbers-counted), e)
+      (λ j k q. ready .made .valid .once j i k l (q ∙ sym e)))
       ∙ e
 
-  objector-number : (k : ℕ) → k < length (R .objections) → getD (numbers R) (getD (objectorsOf R) k 0) 0 ≡ getD (objectorNumbers R) k 0
+  objector-number : (k : ℕ) → k < length (R .objections) → getD (numbers R) (getD (objectorsOf R) k 0) 0 ≡ getD
+      (objectorNumbers R) k 0
   objector-number k h =
-      ap (λ p. getD (numbers R) p 0) (objector-entry R (length (R .statements)) (length (R .objections)) (numbers R) (marksOf R) (objectorsOf R) (targetsOf R) holds k h)
+      ap (λ p. getD (numbers R) p 0) (objector-entry R (length (R .statements)) (length (R .objections)) (numbers R) (marksOf R)
+      (objectorsOf R) (targetsOf R) holds k h)
       ∙ at-place (getD (objectorNumbers R) k 0) (ready .made .valid .known k h .0)
 
   target-number : (k : ℕ) → k < length (R .objections) → getD (numbers R) (getD (targetsOf R) k 0) 0 ≡ getD (targetNumbers R) k 0
   target-number k h =
-      ap (λ p. getD (numbers R) p 0) (target-entry R (length (R .statements)) (length (R .objections)) (numbers R) (marksOf R) (objectorsOf R) (targetsOf R) holds k h)
+      ap (λ p. getD (numbers R) p 0) (target-entry R (length (R .statements)) (length (R .objections)) (numbers R) (marksOf R)
+      (objectorsOf R) (targetsOf R) holds k h)
       ∙ at-place (getD (targetNumbers R) k 0) (ready .made .valid .known k h .1)
 
   abbrev vs : ℕ → Verdict
@@ -127,18 +144,26 @@ module _ (R : Register) (nums marks objectors targets labels lengths : List ℕ)
 
   statements-same : statementPart (numbers R) labels lengths ≡ statementRows (R .statements) (upTo (length (R .statements)) vs)
   unfolding statementPart
-  statements-same = ap (λ n. rowsTo n (statementAt (numbers R) labels lengths)) numbers-counted ∙ sym (statement-rows (R .statements) vs)
+  statements-same =
+      ap (λ n. rowsTo n (statementAt (numbers R) labels lengths)) numbers-counted ∙ sym (statement-rows (R .statements) vs)
 
-  objections-same : objectionPart (numbers R) (objectorsOf R) (targetsOf R) labels lengths ≡ objectionRows (R .objections) (upTo (length (R .objections)) κs)
+  objections-same : objectionPart (numbers R) (objectorsOf R) (targetsOf R) labels lengths ≡ objectionRows (R .objections)
+      (upTo (length (R .objections)) κs)
   unfolding objectionPart
   objections-same =
-      ap (λ m. rowsTo m (objectionAt (numbers R) (objectorsOf R) (targetsOf R) labels lengths)) (objectors-counted R (ready .made .valid))
-      ∙ rows-same (length (R .objections)) (objectionAt (numbers R) (objectorsOf R) (targetsOf R) labels lengths) (λ k. objectionRow (getD (objectorNumbers R) k 0) (getD (targetNumbers R) k 0) (κs k)) (λ k h. ap₂ (λ y x. objectionRow y x (κs k)) (objector-number k h) (target-number k h))
+      ap (λ m. rowsTo m (objectionAt (numbers R) (objectorsOf R) (targetsOf R) labels lengths))
+      (objectors-counted R (ready .made .valid))
+      ∙ rows-same (length (R .objections)) (objectionAt (numbers R) (objectorsOf R) (targetsOf R) labels lengths)
+      (λ k. objectionRow (getD (objectorNumbers R) k 0) (getD (targetNumbers R) k 0) (κs k))
+      (λ k h. ap₂ (λ y x. objectionRow y x (κs k)) (objector-number k h) (target-number k h))
       ∙ sym (objection-rows (R .objections) κs)
 
-  whole-same : whole (numbers R) (objectorsOf R) (targetsOf R) labels lengths ≡ listing R (upTo (length (R .statements)) vs) (upTo (length (R .objections)) κs)
+  whole-same : whole (numbers R) (objectorsOf R) (targetsOf R) labels lengths ≡ listing R (upTo (length (R .statements)) vs)
+      (upTo (length (R .objections)) κs)
   unfolding whole
-  whole-same = ap₂ (λ a b. a ++ b) (ap₂ header numbers-counted (objectors-counted R (ready .made .valid))) (ap₂ (λ a b. a ++ b) statements-same objections-same)
+  whole-same =
+      ap₂ (λ a b. a ++ b) (ap₂ header numbers-counted (objectors-counted R (ready .made .valid)))
+      (ap₂ (λ a b. a ++ b) statements-same objections-same)
 
   own-listing : IsListing R (whole (numbers R) (objectorsOf R) (targetsOf R) labels lengths)
   own-listing = record {
@@ -146,8 +171,14 @@ module _ (R : Register) (nums marks objectors targets labels lengths : List ℕ)
     kinds = upTo (length (R .objections)) κs;
     verdict-each = length-upTo (length (R .statements)) vs;
     kind-each = length-upTo (length (R .objections)) κs;
-    means = λ x h. rw (getD-upTo (length (R .statements)) vs is-open x h) (verdict-told (numbers R) (marksOf R) (objectorsOf R) (targetsOf R) labels lengths own x (omega (arith, marks-counted R (ready .made .valid))));
-    of-kind = λ k h. rw (getD-upTo (length (R .objections)) κs Idle k h) (kind-of-entry (numbers R) (marksOf R) (objectorsOf R) (targetsOf R) labels lengths own k (omega (arith, objectors-counted R (ready .made .valid))));
+    means =
+        λ x h. rw (getD-upTo (length (R .statements)) vs is-open x h)
+        (verdict-told (numbers R) (marksOf R) (objectorsOf R) (targetsOf R) labels lengths own x
+        (omega (arith, marks-counted R (ready .made .valid))));
+    of-kind =
+        λ k h. rw (getD-upTo (length (R .objections)) κs Idle k h)
+        (kind-of-entry (numbers R) (marksOf R) (objectorsOf R) (targetsOf R) labels lengths own k
+        (omega (arith, objectors-counted R (ready .made .valid))));
     is = whole-same;
   }
 

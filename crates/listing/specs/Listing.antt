@@ -81,7 +81,9 @@ objectionRows (o ∷ os) [] = []
 objectionRows (o ∷ os) (κ ∷ κs) = objectionRow (o .objector) (o .target) κ ++ objectionRows os κs
 
 abbrev pub listing : Register → List Verdict → List Kind → List ℕ
-listing R vs κs = header (length (R .statements)) (length (R .objections)) ++ (statementRows (R .statements) vs ++ objectionRows (R .objections) κs)
+listing R vs κs =
+    header (length (R .statements)) (length (R .objections)) ++
+    (statementRows (R .statements) vs ++ objectionRows (R .objections) κs)
 
 -- l is the listing of the register: that of its statements' own verdicts and of its objections' own kinds
 pub record IsListing (R : Register) (l : List ℕ) : Type 0 where
@@ -90,7 +92,8 @@ pub record IsListing (R : Register) (l : List ℕ) : Type 0 where
   pub verdict-each : length verdicts ≡ length (R .statements)
   pub kind-each : length kinds ≡ length (R .objections)
   pub means : (x : ℕ) → x < length (R .statements) → Means (book R) x (getD verdicts x is-open)
-  pub of-kind : (k : ℕ) → k < length (R .objections) → OfKind (book R) (getD (objectorsOf R) k 0) (getD (targetsOf R) k 0) (getD kinds k Idle)
+  pub of-kind : (k : ℕ) → k < length (R .objections)
+      → OfKind (book R) (getD (objectorsOf R) k 0) (getD (targetsOf R) k 0) (getD kinds k Idle)
   pub is : l ≡ listing R verdicts kinds
 
 -- What the program is given: a register that is in order, as lists of just its length, with the labels and lengths of its

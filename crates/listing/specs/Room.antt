@@ -53,7 +53,8 @@ orIdle (some κ) = κ
 orIdle none = Idle
 
 abbrev pub kindAt : (objectors targets labels lengths : List ℕ) → ℕ → Kind
-kindAt objectors targets labels lengths k = orIdle (kindOf (verdictAt labels lengths (getD targets k 0)) (verdictAt labels lengths (getD objectors k 0)))
+kindAt objectors targets labels lengths k =
+    orIdle (kindOf (verdictAt labels lengths (getD targets k 0)) (verdictAt labels lengths (getD objectors k 0)))
 
 -- the rows 0, 1, .. n - 1
 unfoldable pub rowsTo : ℕ → (ℕ → List ℕ) → List ℕ
@@ -64,17 +65,21 @@ abbrev pub statementAt : (nums labels lengths : List ℕ) → ℕ → List ℕ
 statementAt nums labels lengths i = statementRow (getD nums i 0) (verdictAt labels lengths i)
 
 abbrev pub objectionAt : (nums objectors targets labels lengths : List ℕ) → ℕ → List ℕ
-objectionAt nums objectors targets labels lengths k = objectionRow (getD nums (getD objectors k 0) 0) (getD nums (getD targets k 0) 0) (kindAt objectors targets labels lengths k)
+objectionAt nums objectors targets labels lengths k =
+    objectionRow (getD nums (getD objectors k 0) 0) (getD nums (getD targets k 0) 0) (kindAt objectors targets labels lengths k)
 
 -- all rows of the statements; of the objections; the listing
 unfoldable pub statementPart : (nums labels lengths : List ℕ) → List ℕ
 statementPart nums labels lengths = rowsTo (length nums) (statementAt nums labels lengths)
 
 unfoldable pub objectionPart : (nums objectors targets labels lengths : List ℕ) → List ℕ
-objectionPart nums objectors targets labels lengths = rowsTo (length objectors) (objectionAt nums objectors targets labels lengths)
+objectionPart nums objectors targets labels lengths =
+    rowsTo (length objectors) (objectionAt nums objectors targets labels lengths)
 
 unfoldable pub whole : (nums objectors targets labels lengths : List ℕ) → List ℕ
-whole nums objectors targets labels lengths = header (length nums) (length objectors) ++ (statementPart nums labels lengths ++ objectionPart nums objectors targets labels lengths)
+whole nums objectors targets labels lengths =
+    header (length nums) (length objectors) ++
+    (statementPart nums labels lengths ++ objectionPart nums objectors targets labels lengths)
 
 -- the lists are in order, belong together, and have the labels and lengths of their book
 pub record Lists (nums marks objectors targets labels lengths : List ℕ) : Type 0 where

@@ -61,7 +61,8 @@ fn objection_size(objector: u32, target: u32, kind: Kind) -> usize
 
 // The size of the rows of all statements.
 fn statements_size(numbers: &[u32], labels: &[u8], lengths: &[u16]) -> usize
-    requires { ⌜ (length (now numbers) ≤ length (now labels)) × (length (now numbers) ≤ length (now lengths)) × (length (now numbers) ≤ 1024) ⌝ }
+    requires { ⌜ (length (now numbers) ≤ length (now labels)) × (length (now numbers) ≤ length (now lengths))
+        × (length (now numbers) ≤ 1024) ⌝ }
     ensures { λ r. ⌜ r ≡ length (statementPart (now (numbers .entry)) (now (labels .entry)) (now (lengths .entry))) ⌝ }
 {
     let mut total: usize = 0;
@@ -83,7 +84,8 @@ fn objections_size(
     lengths: &[u16],
 ) -> usize
     requires { ⌜ Lists (now numbers) (now marks) (now objectors) (now targets) (now labels) (now lengths) ⌝ }
-    ensures { λ r. ⌜ r ≡ length (objectionPart (now (numbers .entry)) (now (objectors .entry)) (now (targets .entry)) (now (labels .entry)) (now (lengths .entry))) ⌝ }
+    ensures { λ r. ⌜ r ≡ length (objectionPart (now (numbers .entry)) (now (objectors .entry)) (now (targets .entry))
+        (now (labels .entry)) (now (lengths .entry))) ⌝ }
 {
     let mut total: usize = 0;
     let mut k = 0;
@@ -220,7 +222,8 @@ fn put_statements(
 ) -> usize
     requires { ⌜ (length (now numbers) ≤ length (now labels)) × (length (now numbers) ≤ length (now lengths)) ⌝ }
     requires { ⌜ Fits (now room) at (statementPart (now numbers) (now labels) (now lengths)) ⌝ }
-    ensures { λ r. ⌜ Put (now (room .entry)) at (statementPart (now (numbers .entry)) (now (labels .entry)) (now (lengths .entry))) r (now (room .exit)) ⌝ }
+    ensures { λ r. ⌜ Put (now (room .entry)) at (statementPart (now (numbers .entry)) (now (labels .entry))
+        (now (lengths .entry))) r (now (room .exit)) ⌝ }
 {
     let mut end = at;
     let mut x = 0;
@@ -244,7 +247,8 @@ fn put_objections(
 ) -> usize
     requires { ⌜ Lists (now numbers) (now marks) (now objectors) (now targets) (now labels) (now lengths) ⌝ }
     requires { ⌜ Fits (now room) at (objectionPart (now numbers) (now objectors) (now targets) (now labels) (now lengths)) ⌝ }
-    ensures { λ r. ⌜ Put (now (room .entry)) at (objectionPart (now (numbers .entry)) (now (objectors .entry)) (now (targets .entry)) (now (labels .entry)) (now (lengths .entry))) r (now (room .exit)) ⌝ }
+    ensures { λ r. ⌜ Put (now (room .entry)) at (objectionPart (now (numbers .entry)) (now (objectors .entry))
+        (now (targets .entry)) (now (labels .entry)) (now (lengths .entry))) r (now (room .exit)) ⌝ }
 {
     let mut end = at;
     let mut k = 0;
@@ -268,7 +272,8 @@ pub fn size(
     lengths: &[u16],
 ) -> usize
     requires { ⌜ ((R : Register) × Ready R (now numbers) (now marks) (now objectors) (now targets) (now labels) (now lengths)) ⌝ }
-    ensures { λ r. ⌜ ((R : Register) → Ready R (now (numbers .entry)) (now (marks .entry)) (now (objectors .entry)) (now (targets .entry)) (now (labels .entry)) (now (lengths .entry)) → (l : List ℕ) × IsListing R l × (r ≡ length l)) ⌝ }
+    ensures { λ r. ⌜ ((R : Register) → Ready R (now (numbers .entry)) (now (marks .entry)) (now (objectors .entry))
+        (now (targets .entry)) (now (labels .entry)) (now (lengths .entry)) → (l : List ℕ) × IsListing R l × (r ≡ length l)) ⌝ }
 {
     let head = header_size(numbers.len() as u32, objectors.len() as u32);
     let statements = statements_size(numbers, labels, lengths);
@@ -286,8 +291,11 @@ pub fn write(
     lengths: &[u16],
     room: &mut [u8],
 ) -> usize
-    requires { ⌜ ((R : Register) × Ready R (now numbers) (now marks) (now objectors) (now targets) (now labels) (now lengths) × ((l : List ℕ) → IsListing R l → length l ≤ length (now room))) ⌝ }
-    ensures { λ r. ⌜ ((R : Register) → Ready R (now (numbers .entry)) (now (marks .entry)) (now (objectors .entry)) (now (targets .entry)) (now (labels .entry)) (now (lengths .entry)) → (l : List ℕ) × IsListing R l × (r ≡ length l) × (now (room .exit) ≡ l ++ drop (length l) (now (room .entry)))) ⌝ }
+    requires { ⌜ ((R : Register) × Ready R (now numbers) (now marks) (now objectors) (now targets) (now labels) (now lengths)
+        × ((l : List ℕ) → IsListing R l → length l ≤ length (now room))) ⌝ }
+    ensures { λ r. ⌜ ((R : Register) → Ready R (now (numbers .entry)) (now (marks .entry)) (now (objectors .entry))
+        (now (targets .entry)) (now (labels .entry)) (now (lengths .entry)) → (l : List ℕ) × IsListing R l × (r ≡ length l)
+        × (now (room .exit) ≡ l ++ drop (length l) (now (room .entry)))) ⌝ }
 {
     let head = put_header(room, 0, numbers.len() as u32, objectors.len() as u32);
     let statements = put_statements(room, head, numbers, labels, lengths);
@@ -306,7 +314,8 @@ pub fn write(
 // Writes the line of a refusal at the start of a room, and answers how many bytes it has.
 pub fn write_refusal(number: u32, place: u32, room: &mut [u8]) -> usize
     requires { ⌜ 64 ≤ length (now room) ⌝ }
-    ensures { λ r. ⌜ (r ≡ length (refusedRow number place)) × (now (room .exit) ≡ refusedRow number place ++ drop (length (refusedRow number place)) (now (room .entry))) ⌝ }
+    ensures { λ r. ⌜ (r ≡ length (refusedRow number place)) ×
+        (now (room .exit) ≡ refusedRow number place ++ drop (length (refusedRow number place)) (now (room .entry))) ⌝ }
 {
     put_numbers(room, 0, b"REFUSED", number, place)
 }

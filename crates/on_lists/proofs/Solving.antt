@@ -15,8 +15,11 @@ pub handed : (marks objectors targets : List ℕ) → Lists marks objectors targ
 handed marks objectors targets l = record { few-marks = l .few-marks; few-pairs = l .few-pairs; order = l .order }
 
 -- what the solver leaves in the rooms is what the calls promise
-module _ (marks objectors targets labels lengths labels′ lengths′ : List ℕ) (s : Solved marks objectors targets labels lengths labels′ lengths′) where
-  pub labels-begin : length marks ≤ length labels → length labels′ ≡ length labels → Begins (length marks) (λ x e. (v : Verdict) × Means (bookOf marks objectors targets) x v × (e ≡ labelNumber v)) labels labels′
+module _ (marks objectors targets labels lengths labels′ lengths′ : List ℕ)
+    (s : Solved marks objectors targets labels lengths labels′ lengths′) where
+  pub labels-begin : length marks ≤ length labels → length labels′ ≡ length labels
+      → Begins (length marks) (λ x e. (v : Verdict) × Means (bookOf marks objectors targets) x v × (e ≡ labelNumber v)) labels
+      labels′
   unfolding bookOf
   labels-begin h e = record {
     fits = h;
@@ -25,7 +28,9 @@ module _ (marks objectors targets labels lengths labels′ lengths′ : List ℕ
     rest = s .labels-rest;
   }
 
-  pub lengths-begin : length marks ≤ length lengths → length lengths′ ≡ length lengths → Begins (length marks) (λ x e. (v : Verdict) × Means (bookOf marks objectors targets) x v × (e ≡ lengthNumber v)) lengths lengths′
+  pub lengths-begin : length marks ≤ length lengths → length lengths′ ≡ length lengths
+      → Begins (length marks) (λ x e. (v : Verdict) × Means (bookOf marks objectors targets) x v × (e ≡ lengthNumber v)) lengths
+      lengths′
   unfolding bookOf
   lengths-begin h e = record {
     fits = h;

@@ -28,7 +28,8 @@ module _ (marks objectors targets : List ℕ) where
   abbrev pub Statements : (Verdict → ℕ) → List ℕ → Answer → List ℕ → Type 0
   Statements number room a after =
       Promised (ListsRefuse (Short (length room < length marks)))
-      (λ n after. Lists marks objectors targets × (n ≡ length marks) × Begins n (λ x e. (v : Verdict) × Means (bookOf marks objectors targets) x v × (e ≡ number v)) room after)
+      (λ n after. Lists marks objectors targets × (n ≡ length marks)
+      × Begins n (λ x e. (v : Verdict) × Means (bookOf marks objectors targets) x v × (e ≡ number v)) room after)
       room a after
 
   abbrev pub PairsLabels : List ℕ → Answer → List ℕ → Type 0
@@ -39,29 +40,39 @@ module _ (marks objectors targets : List ℕ) where
 
   -- a number for each objection, in the order of the lists
   abbrev pub Objections : (Kind → ℕ) → ℕ → List ℕ → List ℕ → Type 0
-  Objections number n room after = Begins n (λ k e. (κ : Kind) × OfKind (bookOf marks objectors targets) (getD objectors k 0) (getD targets k 0) κ × (e ≡ number κ)) room after
+  Objections number n room after =
+      Begins n
+      (λ k e. (κ : Kind) × OfKind (bookOf marks objectors targets) (getD objectors k 0) (getD targets k 0) κ × (e ≡ number κ))
+      room after
 
   -- kinds and lengths, each in its own room
   abbrev pub KindsGiven : List ℕ × List ℕ → ℕ → List ℕ × List ℕ → Type 0
-  KindsGiven rooms n after = Lists marks objectors targets × (n ≡ length objectors) × Objections kindNumber n (rooms .0) (after .0) × Objections kindLength n (rooms .1) (after .1)
+  KindsGiven rooms n after =
+      Lists marks objectors targets × (n ≡ length objectors)
+      × Objections kindNumber n (rooms .0) (after .0) × Objections kindLength n (rooms .1) (after .1)
 
   abbrev pub PairsKinds : List ℕ × List ℕ → Answer → List ℕ × List ℕ → Type 0
   PairsKinds rooms a after = Promised (ListsRefuse (Short (KindsShort objectors rooms))) (KindsGiven rooms) rooms a after
 
   -- the line of argument of the statement at a place, by places; the room is shorter than that
   abbrev pub LineGiven : (place : ℕ) → List ℕ → ℕ → List ℕ → Type 0
-  LineGiven place room n after = Lists marks objectors targets × (place < length marks) × ((l : List ℕ) × Line (bookOf marks objectors targets) place l × Written l room n after)
+  LineGiven place room n after =
+      Lists marks objectors targets × (place < length marks)
+      × ((l : List ℕ) × Line (bookOf marks objectors targets) place l × Written l room n after)
 
   abbrev pub LineShort : (place : ℕ) → List ℕ → Type 0
   LineShort place room = (l : List ℕ) × Line (bookOf marks objectors targets) place l × (length room < length l)
 
   -- 14 for lists: the asked place is not below the number of marks
   abbrev pub PairsLine : (place : ℕ) → List ℕ → Answer → List ℕ → Type 0
-  PairsLine place room a after = Promised (ListsRefuse (Asks (place < length marks) 0 (LineShort place room))) (LineGiven place room) room a after
+  PairsLine place room a after =
+      Promised (ListsRefuse (Asks (place < length marks) 0 (LineShort place room))) (LineGiven place room) room a after
 
   -- what the class exercise answers; it lends no room
   abbrev pub ExerciseGiven : (place turns : ℕ) → ℕ → Unit {0} → Type 0
-  ExerciseGiven place turns n after = Lists marks objectors targets × (place < length marks) × (turns ≤ 6) × Answered (bookOf marks objectors targets) place turns n
+  ExerciseGiven place turns n after =
+      Lists marks objectors targets × (place < length marks) × (turns ≤ 6)
+      × Answered (bookOf marks objectors targets) place turns n
 
   abbrev pub PairsExercise : (place turns : ℕ) → Answer → Type 0
   PairsExercise place turns a = Promised (ListsRefuse (Asks (place < length marks) turns ⊥)) (ExerciseGiven place turns) tt a tt

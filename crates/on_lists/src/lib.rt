@@ -13,7 +13,8 @@ ghost use Rattle.on_lists.specs.Lists.{PairsLabels, PairsLengths, PairsK
 
 // The label of each statement: 0 open, 1 stands, 2 falls.
 pub fn pairs_labels(marks: &[u8], objectors: &[u32], targets: &[u32], labels: &mut [u8]) -> Answer
-    ensures { λ a. ⌜ PairsLabels (now (marks .entry)) (now (objectors .entry)) (now (targets .entry)) (now (labels .entry)) a (now (labels .exit)) ⌝ }
+    ensures { λ a. ⌜ PairsLabels (now (marks .entry)) (now (objectors .entry)) (now (targets .entry)) (now (labels .entry)) a
+        (now (labels .exit)) ⌝ }
 {
     let checked = pairs::check(marks, objectors, targets);
     if let Checked::Refused(refusal) = checked {
@@ -35,7 +36,8 @@ pub fn pairs_lengths(
     targets: &[u32],
     lengths: &mut [u16],
 ) -> Answer
-    ensures { λ a. ⌜ PairsLengths (now (marks .entry)) (now (objectors .entry)) (now (targets .entry)) (now (lengths .entry)) a (now (lengths .exit)) ⌝ }
+    ensures { λ a. ⌜ PairsLengths (now (marks .entry)) (now (objectors .entry)) (now (targets .entry)) (now (lengths .entry)) a
+        (now (lengths .exit)) ⌝ }
 {
     let checked = pairs::check(marks, objectors, targets);
     if let Checked::Refused(refusal) = checked {
@@ -64,7 +66,10 @@ fn write_kinds(
     requires { ⌜ (length (now marks) ≤ length (now labels)) × (length (now marks) ≤ length (now turns)) ⌝ }
     requires { ⌜ (length (now objectors) ≤ length (now kinds)) × (length (now objectors) ≤ length (now lengths)) ⌝ }
     requires { ⌜ Labelled (bookOf (now marks) (now objectors) (now targets)) (now labels) (now turns) ⌝ }
-    ensures { λ _. ⌜ Objections (now (marks .entry)) (now (objectors .entry)) (now (targets .entry)) kindNumber (length (now (objectors .entry))) (now (kinds .entry)) (now (kinds .exit)) × Objections (now (marks .entry)) (now (objectors .entry)) (now (targets .entry)) kindLength (length (now (objectors .entry))) (now (lengths .entry)) (now (lengths .exit)) ⌝ }
+    ensures { λ _. ⌜ Objections (now (marks .entry)) (now (objectors .entry)) (now (targets .entry)) kindNumber
+        (length (now (objectors .entry))) (now (kinds .entry)) (now (kinds .exit))
+        × Objections (now (marks .entry)) (now (objectors .entry)) (now (targets .entry)) kindLength
+        (length (now (objectors .entry))) (now (lengths .entry)) (now (lengths .exit)) ⌝ }
 {
     let mut k = 0;
     while k < objectors.len() {
@@ -83,7 +88,8 @@ pub fn pairs_kinds(
     kinds: &mut [u8],
     lengths: &mut [u16],
 ) -> Answer
-    ensures { λ a. ⌜ PairsKinds (now (marks .entry)) (now (objectors .entry)) (now (targets .entry)) (now (kinds .entry), now (lengths .entry)) a (now (kinds .exit), now (lengths .exit)) ⌝ }
+    ensures { λ a. ⌜ PairsKinds (now (marks .entry)) (now (objectors .entry)) (now (targets .entry))
+        (now (kinds .entry), now (lengths .entry)) a (now (kinds .exit), now (lengths .exit)) ⌝ }
 {
     let checked = pairs::check(marks, objectors, targets);
     if let Checked::Refused(refusal) = checked {
@@ -105,14 +111,16 @@ pub fn pairs_kinds(
 
 // The labels of moves: `from` holds the target of each objection, `to` its objector.
 pub fn moves_labels(marks: &[u8], from: &[u32], to: &[u32], labels: &mut [u8]) -> Answer
-    ensures { λ a. ⌜ MovesLabels (now (marks .entry)) (now (from .entry)) (now (to .entry)) (now (labels .entry)) a (now (labels .exit)) ⌝ }
+    ensures { λ a. ⌜ MovesLabels (now (marks .entry)) (now (from .entry)) (now (to .entry)) (now (labels .entry)) a
+        (now (labels .exit)) ⌝ }
 {
     pairs_labels(marks, to, from, labels)
 }
 
 // The lengths of moves.
 pub fn moves_lengths(marks: &[u8], from: &[u32], to: &[u32], lengths: &mut [u16]) -> Answer
-    ensures { λ a. ⌜ MovesLengths (now (marks .entry)) (now (from .entry)) (now (to .entry)) (now (lengths .entry)) a (now (lengths .exit)) ⌝ }
+    ensures { λ a. ⌜ MovesLengths (now (marks .entry)) (now (from .entry)) (now (to .entry)) (now (lengths .entry)) a
+        (now (lengths .exit)) ⌝ }
 {
     pairs_lengths(marks, to, from, lengths)
 }
@@ -125,7 +133,8 @@ pub fn pairs_line(
     place: u32,
     line: &mut [u32],
 ) -> Answer
-    ensures { λ a. ⌜ PairsLine (now (marks .entry)) (now (objectors .entry)) (now (targets .entry)) place (now (line .entry)) a (now (line .exit)) ⌝ }
+    ensures { λ a. ⌜ PairsLine (now (marks .entry)) (now (objectors .entry)) (now (targets .entry)) place (now (line .entry)) a
+        (now (line .exit)) ⌝ }
 {
     let checked = pairs::check(marks, objectors, targets);
     if let Checked::Refused(refusal) = checked {

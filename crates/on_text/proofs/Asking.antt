@@ -26,18 +26,23 @@ use Rattle.on_text.specs.Texts.{Places, byNumber, LineWritten, ExerciseA
 use Rattle.on_text.proofs.Solving.{register-handed}
 
 -- a room that begins with a list, once its entries are told by f
-pub retold : (f : ℕ → ℕ) (l room line after : List ℕ) → line ≡ l ++ drop (length l) room → length l ≤ length room → Begins (length l) (λ k e. e ≡ f (getD line k 0)) line after → after ≡ map f l ++ drop (length l) room
+pub retold : (f : ℕ → ℕ) (l room line after : List ℕ) → line ≡ l ++ drop (length l) room → length l ≤ length room
+    → Begins (length l) (λ k e. e ≡ f (getD line k 0)) line after → after ≡ map f l ++ drop (length l) room
 retold f l room line after e h b = ext-getD 0 after (map f l ++ drop (length l) room) sizes (λ k i. at k (decLt k (length l)))
   where
     sizes : length after ≡ length (map f l ++ drop (length l) room)
-    sizes = b .same ∙ ap length e ∙ length-append l (drop (length l) room) ∙ sym (length-append (map f l) (drop (length l) room) ∙ ap (λ n. n + length (drop (length l) room)) (length-map l f))
+    sizes =
+        b .same ∙ ap length e ∙ length-append l (drop (length l) room)
+        ∙ sym (length-append (map f l) (drop (length l) room) ∙ ap (λ n. n + length (drop (length l) room)) (length-map l f))
 
     at : (k : ℕ) → Dec (k < length l) → getD after k 0 ≡ getD (map f l ++ drop (length l) room) k 0
     at k (yes i) =
-        b .each k i ∙ ap (λ (u : List ℕ). f (getD u k 0)) e ∙ ap f (List·getD-append l (drop (length l) room) 0 k i) ∙ sym (mapped f l k i)
+        b .each k i ∙ ap (λ (u : List ℕ). f (getD u k 0)) e ∙ ap f (List·getD-append l (drop (length l) room) 0 k i)
+        ∙ sym (mapped f l k i)
         ∙ sym (List·getD-append (map f l) (drop (length l) room) 0 k (omega (arith, length-map l f)))
     at k (no i) =
-        b .rest k (omega arith) ∙ ap (λ (u : List ℕ). getD u k 0) e ∙ beyond (length l) room l refl k (omega arith) ∙ sym (beyond (length l) room (map f l) (length-map l f) k (omega arith))
+        b .rest k (omega arith) ∙ ap (λ (u : List ℕ). getD u k 0) e ∙ beyond (length l) room l refl k (omega arith)
+        ∙ sym (beyond (length l) room (map f l) (length-map l f) k (omega arith))
 
 module _ (R : Register) (nums marks objectors targets : List ℕ) (made : Made R nums marks objectors targets) where
   pub lists-handed : Handed marks objectors targets
@@ -51,7 +56,12 @@ module _ (R : Register) (nums marks objectors targets : List ℕ) (made : Made R
 
   module _ (number x : ℕ) (f : Found (λ i. getD nums i 0 ≡ number) (length nums) x) where
     pub unlisted : (turns : ℕ) (short : Type 0) → length nums ≤ x → Asks (Issued R number) turns short Asked
-    unlisted turns short h = inl (λ w. f .1 (w .0) (omega (arith, w .1, ap length (made .numbers-are))) (ap (λ (u : List ℕ). getD u (w .0) 0) (made .numbers-are) ∙ w .2), refl)
+    unlisted turns short h =
+        inl (
+          λ w. f .1 (w .0) (omega (arith, w .1, ap length (made .numbers-are)))
+              (ap (λ (u : List ℕ). getD u (w .0) 0) (made .numbers-are) ∙ w .2),
+          refl,
+        )
 
     module _ (h : x < length nums) where
       place : Places R number x
@@ -60,19 +70,32 @@ module _ (R : Register) (nums marks objectors targets : List ℕ) (made : Made R
       pub too-many : (turns within : ℕ) → within ≡ turns → 6 < within → Asks (Issued R number) turns ⊥ Turns
       too-many turns within e g = inr (inl ((x, place .0, place .1), omega arith, refl))
 
-      pub exercise-given : (turns within answer : ℕ) → within ≡ turns → within ≤ 6 → Answered (bookOf marks objectors targets) x within answer → ExerciseAnswered R number turns (Given answer)
-      exercise-given turns within answer e g p = (omega arith, (x, place, rw e at (subst (λ B. Answered B x within answer) book-is p)))
+      pub exercise-given : (turns within answer : ℕ) → within ≡ turns → within ≤ 6
+          → Answered (bookOf marks objectors targets) x within answer → ExerciseAnswered R number turns (Given answer)
+      exercise-given turns within answer e g p =
+          (omega arith, (x, place, rw e at (subst (λ B. Answered B x within answer) book-is p)))
 
-      module _ (room line : List ℕ) (n : ℕ) (p : Lined (bookOf marks objectors targets) x room n line) (same : length line ≡ length room) where
+      module _ (room line : List ℕ) (n : ℕ) (p : Lined (bookOf marks objectors targets) x room n line)
+          (same : length line ≡ length room) where
         is-line : Line (book R) x (p .line)
         is-line = subst (λ B. Line B x (p .line)) book-is (p .is-line)
 
         pub line-few : n ≤ 1024
         unfolding bookOf
-        line-few = omega (arith, p .counts, line-bound (bookOf marks objectors targets) x (p .line) (omega (arith, counted)) (p .is-line), lists-handed .few-marks)
+        line-few =
+            omega (
+              arith,
+              p .counts,
+              line-bound (bookOf marks objectors targets) x (p .line) (omega (arith, counted))
+                  (p .is-line),
+              lists-handed .few-marks,
+            )
 
         pub line-short : length line < n → LineWritten R number room (Refused Room) line
-        line-short g = (inr (inr ((x, place .0, place .1), omega arith, ((x, place, (p .line, is-line, omega (arith, p .counts))), refl))), p .short (omega (arith, p .counts)))
+        line-short g = (
+          inr (inr ((x, place .0, place .1), omega arith, ((x, place, (p .line, is-line, omega (arith, p .counts))), refl))),
+          p .short (omega (arith, p .counts)),
+        )
 
         written : n ≤ length line → line ≡ p .line ++ drop (length (p .line)) room
         written g = p .fits (omega (arith, p .counts))
@@ -81,19 +104,36 @@ module _ (R : Register) (nums marks objectors targets : List ℕ) (made : Made R
         unfolding bookOf
         places-listed g k i =
             let j : k < length (p .line) = omega (arith, p .counts) in
-            let e : getD line k 0 ≡ getD (p .line) k 0 = ap (λ (u : List ℕ). getD u k 0) (written g) ∙ List·getD-append (p .line) (drop (length (p .line)) room) 0 k j in
+            let e : getD line k 0 ≡ getD (p .line) k 0 = ap (λ (u : List ℕ). getD u k 0) (written g)
+            ∙ List·getD-append (p .line) (drop (length (p .line)) room) 0 k j in
             omega (arith, e, line-listed (bookOf marks objectors targets) (omega (arith, counted)) (p .is-line) k j, counted)
 
-        pub line-given : n ≤ length line → (after : List ℕ) → Begins n (λ k e. e ≡ getD nums (getD line k 0) 0) line after → LineWritten R number room (Given n) after
+        pub line-given : n ≤ length line → (after : List ℕ) → Begins n (λ k e. e ≡ getD nums (getD line k 0) 0) line after
+            → LineWritten R number room (Given n) after
         line-given g after b =
-            let c : length (byNumber R (p .line)) ≡ length (p .line) = length-map (p .line) (λ i. getD (numbers R) i 0) in
-            (x, place, (p .line, is-line, (p .counts ∙ sym c, omega (arith, p .counts, c), told ∙ ap (λ i. byNumber R (p .line) ++ drop i room) (sym c))))
+            let c : length (byNumber R (p .line)) ≡ length (p .line) = length-map (p .line) (λ i. getD (numbers R) i 0) in (
+              x,
+              place,
+              (
+                p .line,
+                is-line,
+                (
+                  p .counts ∙ sym c,
+                  omega (arith, p .counts, c),
+                  told
+                      ∙ ap (λ i. byNumber R (p .line) ++ drop i room) (sym c),
+                ),
+              ),
+            )
           where
             told : after ≡ byNumber R (p .line) ++ drop (length (p .line)) room
-            told = rw (made .numbers-are) at (retold (λ i. getD nums i 0) (p .line) room line after (written g) (omega (arith, p .counts)) (rw (p .counts) at b))
+            told =
+                rw (made .numbers-are) at (retold (λ i. getD nums i 0) (p .line) room line after (written g)
+                (omega (arith, p .counts)) (rw (p .counts) at b))
 
 -- what is ready to be listed is ready for its lines of argument
-pub ready-settled : (R : Register) (nums marks objectors targets labels lengths : List ℕ) → Ready R nums marks objectors targets labels lengths → Settled marks objectors targets labels lengths
+pub ready-settled : (R : Register) (nums marks objectors targets labels lengths : List ℕ)
+    → Ready R nums marks objectors targets labels lengths → Settled marks objectors targets labels lengths
 ready-settled R nums marks objectors targets labels lengths r = record {
   handed = lists-handed R nums marks objectors targets (r .made);
   labelled = rw (r .made .marks-are, r .made .objectors-are, r .made .targets-are) (r .labelled);

@@ -24,7 +24,9 @@ use Rattle.answer.specs.declared.Answer.the-variants.{Refused, Given}
 use Rattle.on_text.specs.Texts.{SolvedText, StatementsGiven, TextRefuses, ListingWritten}
 
 -- what is promised of its register is promised of the text
-pub text-promised : {Rooms : Type 0} (s : List ℕ) (later : Register → Refusal → Type 0) (gives : Register → ℕ → Rooms → Type 0) (R : Register) → Accepts s R → (rooms : Rooms) (a : Answer) (after : Rooms) → Promised (later R) (gives R) rooms a after → Promised (TextRefuses s later) (λ n after. (R : Register) × Accepts s R × gives R n after) rooms a after
+pub text-promised : {Rooms : Type 0} (s : List ℕ) (later : Register → Refusal → Type 0) (gives : Register → ℕ → Rooms → Type 0)
+    (R : Register) → Accepts s R → (rooms : Rooms) (a : Answer) (after : Rooms) → Promised (later R) (gives R) rooms a after
+    → Promised (TextRefuses s later) (λ n after. (R : Register) × Accepts s R × gives R n after) rooms a after
 text-promised s later gives R t rooms (Refused r) after (p, q) = (inr (R, t, p), q)
 text-promised s later gives R t rooms (Given n) after p = (R, t, p)
 
@@ -37,20 +39,35 @@ register-handed R v = record {
 
 module _ (s nums marks objectors targets : List ℕ) (n m : ℕ) (read : ReadsTo s nums marks objectors targets (Whole n m)) where
   pub few : (n ≤ 1024) × (m ≤ 4096)
-  few = (omega (arith, read .2 .statements, read .1 .valid .few-statements), omega (arith, read .2 .objections, read .1 .valid .few-objections))
+  few = (
+    omega (arith, read .2 .statements, read .1 .valid .few-statements),
+    omega (arith, read .2 .objections, read .1 .valid .few-objections),
+  )
 
   -- the parts that the register fills are its own lists
   pub made : Made (read .0) (take n nums) (take n marks) (take m objectors) (take m targets)
-  made = record { valid = read .1 .valid; numbers-are = read .2 .numbers-are; marks-are = read .2 .marks-are; objectors-are = read .2 .objectors-are; targets-are = read .2 .targets-are }
+  made =
+      record {
+        valid = read .1 .valid;
+        numbers-are = read .2 .numbers-are;
+        marks-are = read .2 .marks-are;
+        objectors-are = read .2 .objectors-are;
+        targets-are = read .2 .targets-are;
+      }
 
   pub rooms-handed : Handed (take n marks) (take m objectors) (take m targets)
-  rooms-handed = rw (read .2 .marks-are, read .2 .objectors-are, read .2 .targets-are) (register-handed (read .0) (read .1 .valid))
+  rooms-handed =
+      rw (read .2 .marks-are, read .2 .objectors-are, read .2 .targets-are) (register-handed (read .0) (read .1 .valid))
 
-  pub rooms-solved : (labels lengths labels′ lengths′ : List ℕ) → Solved (take n marks) (take m objectors) (take m targets) labels lengths labels′ lengths′ → SolvedText s nums marks objectors targets labels′ lengths′ (Whole n m)
-  rooms-solved labels lengths labels′ lengths′ solved = (read .0, read .1, read .2, rw (read .2 .marks-are, read .2 .objectors-are, read .2 .targets-are) at (solved .labelled))
+  pub rooms-solved : (labels lengths labels′ lengths′ : List ℕ)
+      → Solved (take n marks) (take m objectors) (take m targets) labels lengths labels′ lengths′
+      → SolvedText s nums marks objectors targets labels′ lengths′ (Whole n m)
+  rooms-solved labels lengths labels′ lengths′ solved =
+      (read .0, read .1, read .2, rw (read .2 .marks-are, read .2 .objectors-are, read .2 .targets-are) at (solved .labelled))
 
 -- what is copied from the solver's rooms is what the calls promise
-module _ (s nums marks objectors targets labels lengths : List ℕ) (n m : ℕ) (w : SolvedText s nums marks objectors targets labels lengths (Whole n m)) where
+module _ (s nums marks objectors targets labels lengths : List ℕ) (n m : ℕ)
+    (w : SolvedText s nums marks objectors targets labels lengths (Whole n m)) where
   pub listed : (x : ℕ) → x < n → x < length (marksOf (w .0))
   listed x h = omega (arith, marks-counted (w .0) (w .1 .valid), w .2 .statements)
 
@@ -60,7 +77,8 @@ module _ (s nums marks objectors targets labels lengths : List ℕ) (n m : ℕ) 
   pub few-objections : m ≤ 4096
   few-objections = omega (arith, w .2 .objections, w .1 .valid .few-objections)
 
-  pub labels-given : (room after : List ℕ) → Begins n (λ k e. e ≡ getD labels k 0) room after → StatementsGiven s labelNumber room n after
+  pub labels-given : (room after : List ℕ) → Begins n (λ k e. e ≡ getD labels k 0) room after
+      → StatementsGiven s labelNumber room n after
   unfolding bookOf
   labels-given room after b = (
     w .0,
@@ -74,7 +92,8 @@ module _ (s nums marks objectors targets labels lengths : List ℕ) (n m : ℕ) 
     },
   )
 
-  pub lengths-given : (room after : List ℕ) → Begins n (λ k e. e ≡ getD lengths k 0) room after → StatementsGiven s lengthNumber room n after
+  pub lengths-given : (room after : List ℕ) → Begins n (λ k e. e ≡ getD lengths k 0) room after
+      → StatementsGiven s lengthNumber room n after
   unfolding bookOf
   lengths-given room after b = (
     w .0,
@@ -92,7 +111,8 @@ module _ (s nums marks objectors targets labels lengths : List ℕ) (n m : ℕ) 
   room-short room h = inr (w .0, w .1, (omega (arith, w .2 .statements), refl))
 
   -- the register is ready to be listed, and its listing is short
-  pub rooms-ready : 1024 ≤ length labels → 1024 ≤ length lengths → Ready (w .0) (take n nums) (take n marks) (take m objectors) (take m targets) labels lengths
+  pub rooms-ready : 1024 ≤ length labels → 1024 ≤ length lengths
+      → Ready (w .0) (take n nums) (take n marks) (take m objectors) (take m targets) labels lengths
   rooms-ready a b = record {
     made = made s nums marks objectors targets n m (w .0, w .1, w .2);
     labels-room = omega (arith, w .1 .valid .few-statements);
@@ -108,5 +128,6 @@ module _ (R : Register) (room : List ℕ) (size : ℕ) (l : List ℕ) (is : IsLi
   pub too-long : length room < size → ListingWritten R room (Refused Room) room
   too-long h = (((l, is, omega arith), refl), refl)
 
-  pub well-written : (after : List ℕ) → size ≤ length room → ((k : List ℕ) × IsListing R k × (after ≡ k ++ drop (length k) room)) → ListingWritten R room (Given size) after
+  pub well-written : (after : List ℕ) → size ≤ length room → ((k : List ℕ) × IsListing R k × (after ≡ k ++ drop (length k) room))
+      → ListingWritten R room (Given size) after
   well-written after h (k, i, e) = (l, is, (counts, omega arith, rw (listing-once R k l i is) at e))

@@ -40,7 +40,8 @@ byNumber R l = map (λ x. getD (numbers R) x 0) l
 -- the room holds the line of argument of the statement of this number, by numbers; the room is shorter than that; and what is
 -- refused: 14, 15, 10, of which 15 never, since no turns are asked
 abbrev pub LineIn : Register → (number : ℕ) → List ℕ → ℕ → List ℕ → Type 0
-LineIn R number room n after = (x : ℕ) × Places R number x × ((l : List ℕ) × Line (book R) x l × Written (byNumber R l) room n after)
+LineIn R number room n after =
+    (x : ℕ) × Places R number x × ((l : List ℕ) × Line (book R) x l × Written (byNumber R l) room n after)
 
 abbrev pub LineShort : Register → (number : ℕ) → List ℕ → Type 0
 LineShort R number room = (x : ℕ) × Places R number x × ((l : List ℕ) × Line (book R) x l × (length room < length l))
@@ -67,10 +68,12 @@ module _ (text : List ℕ) where
   -- a number for each statement, in listed order
   abbrev pub StatementsGiven : (Verdict → ℕ) → List ℕ → ℕ → List ℕ → Type 0
   StatementsGiven number room n after =
-      (R : Register) × Accepts text R × (n ≡ length (R .statements)) × Begins n (λ x e. (v : Verdict) × Means (book R) x v × (e ≡ number v)) room after
+      (R : Register) × Accepts text R × (n ≡ length (R .statements))
+      × Begins n (λ x e. (v : Verdict) × Means (book R) x v × (e ≡ number v)) room after
 
   abbrev pub TextStatements : (Verdict → ℕ) → List ℕ → Answer → List ℕ → Type 0
-  TextStatements number room a after = Promised (TextRefuses (λ R. Short (length room < length (R .statements)))) (StatementsGiven number room) room a after
+  TextStatements number room a after =
+      Promised (TextRefuses (λ R. Short (length room < length (R .statements)))) (StatementsGiven number room) room a after
 
   abbrev pub TextLabels : List ℕ → Answer → List ℕ → Type 0
   TextLabels = TextStatements labelNumber
@@ -80,15 +83,21 @@ module _ (text : List ℕ) where
 
   -- the listing of the register, in a room that is long enough; "room beyond it stays as found"
   abbrev pub TextListing : List ℕ → Answer → List ℕ → Type 0
-  TextListing room a after = Promised (TextRefuses (λ R. Short (ListingShort room R))) (λ n after. (R : Register) × Accepts text R × ListingIn R room n after) room a after
+  TextListing room a after =
+      Promised (TextRefuses (λ R. Short (ListingShort room R)))
+      (λ n after. (R : Register) × Accepts text R × ListingIn R room n after) room a after
 
   -- the line of argument of the statement of a number
   abbrev pub TextLine : (number : ℕ) → List ℕ → Answer → List ℕ → Type 0
-  TextLine number room a after = Promised (TextRefuses (λ R. LineRefused R number room)) (λ n after. (R : Register) × Accepts text R × LineIn R number room n after) room a after
+  TextLine number room a after =
+      Promised (TextRefuses (λ R. LineRefused R number room))
+      (λ n after. (R : Register) × Accepts text R × LineIn R number room n after) room a after
 
   -- what the class exercise answers; it lends no room
   abbrev pub TextExercise : (number turns : ℕ) → Answer → Type 0
-  TextExercise number turns a = Promised (TextRefuses (λ R. Asks (Issued R number) turns ⊥)) (λ n after. (R : Register) × Accepts text R × ExerciseIn R number turns n after) tt a tt
+  TextExercise number turns a =
+      Promised (TextRefuses (λ R. Asks (Issued R number) turns ⊥))
+      (λ n after. (R : Register) × Accepts text R × ExerciseIn R number turns n after) tt a tt
 
   -- Not for callers: the text is read into rooms, and its statements are labelled.
   abbrev pub SolvedText : (nums marks objectors targets labels lengths : List ℕ) → Reading → Type 0

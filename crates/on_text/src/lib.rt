@@ -29,7 +29,8 @@ fn solve_rooms(
     requires { ⌜ (n ≤ length (now marks)) × (m ≤ length (now objectors)) × (m ≤ length (now targets)) ⌝ }
     requires { ⌜ Handed (take n (now marks)) (take m (now objectors)) (take m (now targets)) ⌝ }
     requires { ⌜ (n ≤ length (now labels)) × (n ≤ length (now lengths)) ⌝ }
-    ensures { λ _. ⌜ Solved (take n (now (marks .entry))) (take m (now (objectors .entry))) (take m (now (targets .entry))) (now (labels .entry)) (now (lengths .entry)) (now (labels .exit)) (now (lengths .exit)) ⌝ }
+    ensures { λ _. ⌜ Solved (take n (now (marks .entry))) (take m (now (objectors .entry))) (take m (now (targets .entry)))
+        (now (labels .entry)) (now (lengths .entry)) (now (labels .exit)) (now (lengths .exit)) ⌝ }
 {
     label::solve(&marks[..n], &objectors[..m], &targets[..m], labels, lengths);
 }
@@ -46,7 +47,8 @@ fn solve_text(
 ) -> Reading
     requires { ⌜ Spacious (now numbers) (now marks) (now objectors) (now targets) ⌝ }
     requires { ⌜ (1024 ≤ length (now labels)) × (1024 ≤ length (now lengths)) ⌝ }
-    ensures { λ r. ⌜ SolvedText (now (text .entry)) (now (numbers .exit)) (now (marks .exit)) (now (objectors .exit)) (now (targets .exit)) (now (labels .exit)) (now (lengths .exit)) r ⌝ }
+    ensures { λ r. ⌜ SolvedText (now (text .entry)) (now (numbers .exit)) (now (marks .exit)) (now (objectors .exit))
+        (now (targets .exit)) (now (labels .exit)) (now (lengths .exit)) r ⌝ }
 {
     let reading = text::read(text, numbers, marks, objectors, targets);
     match reading {
@@ -152,8 +154,11 @@ fn write_listing(
     lengths: &[u16],
     room: &mut [u8],
 ) -> Answer
-    requires { ⌜ ((R : Register) × Ready R (now numbers) (now marks) (now objectors) (now targets) (now labels) (now lengths) × ((l : List ℕ) → IsListing R l → length l ≤ 131072)) ⌝ }
-    ensures { λ a. ⌜ ((R : Register) → Ready R (now (numbers .entry)) (now (marks .entry)) (now (objectors .entry)) (now (targets .entry)) (now (labels .entry)) (now (lengths .entry)) → ListingWritten R (now (room .entry)) a (now (room .exit))) ⌝ }
+    requires { ⌜ ((R : Register) × Ready R (now numbers) (now marks) (now objectors) (now targets) (now labels) (now lengths)
+        × ((l : List ℕ) → IsListing R l → length l ≤ 131072)) ⌝ }
+    ensures { λ a. ⌜ ((R : Register) → Ready R (now (numbers .entry)) (now (marks .entry)) (now (objectors .entry))
+        (now (targets .entry)) (now (labels .entry)) (now (lengths .entry))
+        → ListingWritten R (now (room .entry)) a (now (room .exit))) ⌝ }
 {
     let size = listing::size(numbers, marks, objectors, targets, labels, lengths);
     if room.len() < size {
@@ -177,8 +182,11 @@ fn list_rooms(
 ) -> Answer
     requires { ⌜ Spacious (now numbers) (now marks) (now objectors) (now targets) ⌝ }
     requires { ⌜ (1024 ≤ length (now labels)) × (1024 ≤ length (now lengths)) ⌝ }
-    requires { ⌜ ((text : List ℕ) × SolvedText text (now numbers) (now marks) (now objectors) (now targets) (now labels) (now lengths) (Whole n m)) ⌝ }
-    ensures { λ a. ⌜ ((text : List ℕ) → SolvedText text (now (numbers .entry)) (now (marks .entry)) (now (objectors .entry)) (now (targets .entry)) (now (labels .entry)) (now (lengths .entry)) (Whole n m) → TextListing text (now (room .entry)) a (now (room .exit))) ⌝ }
+    requires { ⌜ ((text : List ℕ) × SolvedText text (now numbers) (now marks) (now objectors) (now targets) (now labels)
+        (now lengths) (Whole n m)) ⌝ }
+    ensures { λ a. ⌜ ((text : List ℕ) → SolvedText text (now (numbers .entry)) (now (marks .entry)) (now (objectors .entry))
+        (now (targets .entry)) (now (labels .entry)) (now (lengths .entry)) (Whole n m)
+        → TextListing text (now (room .entry)) a (now (room .exit))) ⌝ }
 {
     write_listing(
         &numbers[..n],
@@ -229,7 +237,8 @@ pub fn text_listing(text: &[u8], room: &mut [u8]) -> Answer
 // Puts the number of each of the n places that a line begins with in its stead.
 fn renumber(numbers: &[u32], n: usize, line: &mut [u32])
     requires { ⌜ (n ≤ length (now line)) × ((k : ℕ) → k < n → getD (now line) k 0 < length (now numbers)) ⌝ }
-    ensures { λ _. ⌜ Begins n (λ k e. e ≡ getD (now (numbers .entry)) (getD (now (line .entry)) k 0) 0) (now (line .entry)) (now (line .exit)) ⌝ }
+    ensures { λ _. ⌜ Begins n (λ k e. e ≡ getD (now (numbers .entry)) (getD (now (line .entry)) k 0) 0) (now (line .entry))
+        (now (line .exit)) ⌝ }
 {
     let mut k = 0;
     while k < n {
@@ -251,7 +260,9 @@ fn write_line(
     line: &mut [u32],
 ) -> Answer
     requires { ⌜ ((R : Register) × Ready R (now numbers) (now marks) (now objectors) (now targets) (now labels) (now lengths)) ⌝ }
-    ensures { λ a. ⌜ ((R : Register) → Ready R (now (numbers .entry)) (now (marks .entry)) (now (objectors .entry)) (now (targets .entry)) (now (labels .entry)) (now (lengths .entry)) → LineWritten R number (now (line .entry)) a (now (line .exit))) ⌝ }
+    ensures { λ a. ⌜ ((R : Register) → Ready R (now (numbers .entry)) (now (marks .entry)) (now (objectors .entry))
+        (now (targets .entry)) (now (labels .entry)) (now (lengths .entry))
+        → LineWritten R number (now (line .entry)) a (now (line .exit))) ⌝ }
 {
     let statements = numbers.len();
     let x = text::find(numbers, statements, number);
@@ -281,8 +292,11 @@ fn line_rooms(
 ) -> Answer
     requires { ⌜ Spacious (now numbers) (now marks) (now objectors) (now targets) ⌝ }
     requires { ⌜ (1024 ≤ length (now labels)) × (1024 ≤ length (now lengths)) ⌝ }
-    requires { ⌜ ((text : List ℕ) × SolvedText text (now numbers) (now marks) (now objectors) (now targets) (now labels) (now lengths) (Whole n m)) ⌝ }
-    ensures { λ a. ⌜ ((text : List ℕ) → SolvedText text (now (numbers .entry)) (now (marks .entry)) (now (objectors .entry)) (now (targets .entry)) (now (labels .entry)) (now (lengths .entry)) (Whole n m) → TextLine text number (now (line .entry)) a (now (line .exit))) ⌝ }
+    requires { ⌜ ((text : List ℕ) × SolvedText text (now numbers) (now marks) (now objectors) (now targets) (now labels)
+        (now lengths) (Whole n m)) ⌝ }
+    ensures { λ a. ⌜ ((text : List ℕ) → SolvedText text (now (numbers .entry)) (now (marks .entry)) (now (objectors .entry))
+        (now (targets .entry)) (now (labels .entry)) (now (lengths .entry)) (Whole n m)
+        → TextLine text number (now (line .entry)) a (now (line .exit))) ⌝ }
 {
     write_line(
         &numbers[..n],
@@ -342,7 +356,8 @@ fn ask_exercise(
     turns: u32,
 ) -> Answer
     requires { ⌜ ((R : Register) × Made R (now numbers) (now marks) (now objectors) (now targets)) ⌝ }
-    ensures { λ a. ⌜ ((R : Register) → Made R (now (numbers .entry)) (now (marks .entry)) (now (objectors .entry)) (now (targets .entry)) → ExerciseAnswered R number turns a) ⌝ }
+    ensures { λ a. ⌜ ((R : Register) → Made R (now (numbers .entry)) (now (marks .entry)) (now (objectors .entry))
+        (now (targets .entry)) → ExerciseAnswered R number turns a) ⌝ }
 {
     let statements = numbers.len();
     let x = text::find(numbers, statements, number);
@@ -369,7 +384,8 @@ fn exercise_rooms(
 ) -> Answer
     requires { ⌜ Spacious (now numbers) (now marks) (now objectors) (now targets) ⌝ }
     requires { ⌜ ((text : List ℕ) × ReadsTo text (now numbers) (now marks) (now objectors) (now targets) (Whole n m)) ⌝ }
-    ensures { λ a. ⌜ ((text : List ℕ) → ReadsTo text (now (numbers .entry)) (now (marks .entry)) (now (objectors .entry)) (now (targets .entry)) (Whole n m) → TextExercise text number turns a) ⌝ }
+    ensures { λ a. ⌜ ((text : List ℕ) → ReadsTo text (now (numbers .entry)) (now (marks .entry)) (now (objectors .entry))
+        (now (targets .entry)) (Whole n m) → TextExercise text number turns a) ⌝ }
 {
     ask_exercise(
         &numbers[..n],

@@ -16,7 +16,8 @@ use Rattle.pairs.specs.Refuses.{BadMark, BadPlace, Same, Repeat, Lists, 
 
 module _ (marks objectors targets : List ℕ) where
   -- what passes every row is accepted, and the other way round
-  pub in-order : length targets ≡ length objectors → ((j : ℕ) → ¬ BadMark marks j) → ((j : ℕ) → ¬ BadPlace marks objectors targets j) → InOrder marks objectors targets
+  pub in-order : length targets ≡ length objectors → ((j : ℕ) → ¬ BadMark marks j)
+      → ((j : ℕ) → ¬ BadPlace marks objectors targets j) → InOrder marks objectors targets
   in-order e marked placed = record {
     paired = e;
     marked = λ x h. low x (decLe (getD marks x 0) 1) (marked x) h;
@@ -32,8 +33,11 @@ module _ (marks objectors targets : List ℕ) where
       inside p (yes l) b = l
       inside p (no l) b = absurd (b (omega arith))
 
-  pub accepted : length targets ≡ length objectors → length marks ≤ 1024 → length objectors ≤ 4096 → ((j : ℕ) → ¬ BadMark marks j) → ((j : ℕ) → ¬ BadPlace marks objectors targets j) → ((j : ℕ) → ¬ Repeat objectors targets j) → Lists marks objectors targets
-  accepted e m n marked placed distinct = record { few-marks = m; few-pairs = n; order = in-order e marked placed; distinct = distinct }
+  pub accepted : length targets ≡ length objectors → length marks ≤ 1024 → length objectors ≤ 4096 → ((j : ℕ) → ¬ BadMark marks j)
+      → ((j : ℕ) → ¬ BadPlace marks objectors targets j) → ((j : ℕ) → ¬ Repeat objectors targets j)
+      → Lists marks objectors targets
+  accepted e m n marked placed distinct =
+      record { few-marks = m; few-pairs = n; order = in-order e marked placed; distinct = distinct }
 
   marked-of : Lists marks objectors targets → (j : ℕ) → ¬ BadMark marks j
   marked-of a j (h, l) = omega (arith, a .order .marked j h)
@@ -93,7 +97,8 @@ unfolding row
 row-passes (yes a) r rest n = absurd (n a)
 row-passes (no f) r rest n = refl
 
-module _ (Fault : ℕ → Type 0) (n : ℕ) (bound : (k : ℕ) → Fault k → k < n) (found : ((k : ℕ) × First Fault k) ⊎ ((k : ℕ) → k < n → ¬ Fault k)) (refusal : ℕ → Refusal) (rest : Option Refusal) where
+module _ (Fault : ℕ → Type 0) (n : ℕ) (bound : (k : ℕ) → Fault k → k < n)
+    (found : ((k : ℕ) × First Fault k) ⊎ ((k : ℕ) → k < n → ¬ Fault k)) (refusal : ℕ → Refusal) (rest : Option Refusal) where
   entries : Option Refusal
   entries = elim found [ inl p ↦ some (refusal (p .0)) | inr f ↦ rest ]
 
@@ -101,7 +106,8 @@ module _ (Fault : ℕ → Type 0) (n : ℕ) (bound : (k : ℕ) → Fault k → k
   unfolding entries
   entries-first k p = go found
     where
-      go : (w : ((k : ℕ) × First Fault k) ⊎ ((k : ℕ) → k < n → ¬ Fault k)) → elim w as (λ _. Option Refusal) [ inl p ↦ some (refusal (p .0)) | inr f ↦ rest ] ≡ some (refusal k)
+      go : (w : ((k : ℕ) × First Fault k) ⊎ ((k : ℕ) → k < n → ¬ Fault k))
+          → elim w as (λ _. Option Refusal) [ inl p ↦ some (refusal (p .0)) | inr f ↦ rest ] ≡ some (refusal k)
       go (inl q) = ap (λ j. some (refusal j)) (first-once Fault (q .0) k (q .1) p)
       go (inr f) = absurd (f k (bound k (p .0)) (p .0))
 
@@ -109,7 +115,8 @@ module _ (Fault : ℕ → Type 0) (n : ℕ) (bound : (k : ℕ) → Fault k → k
   unfolding entries
   entries-pass f = go found
     where
-      go : (w : ((k : ℕ) × First Fault k) ⊎ ((k : ℕ) → k < n → ¬ Fault k)) → elim w as (λ _. Option Refusal) [ inl p ↦ some (refusal (p .0)) | inr f ↦ rest ] ≡ rest
+      go : (w : ((k : ℕ) × First Fault k) ⊎ ((k : ℕ) → k < n → ¬ Fault k))
+          → elim w as (λ _. Option Refusal) [ inl p ↦ some (refusal (p .0)) | inr f ↦ rest ] ≡ rest
       go (inl q) = absurd (f (q .0) (q .1 .0))
       go (inr g) = refl
 
@@ -118,22 +125,29 @@ module _ (marks objectors targets : List ℕ) where
   mark? k = both? (decLt k (length marks)) (decLt 1 (getD marks k 0))
 
   place? : (k : ℕ) → Dec (BadPlace marks objectors targets k)
-  place? k = both? (decLt k (length objectors)) (either? (decLe (length marks) (getD objectors k 0)) (decLe (length marks) (getD targets k 0)))
+  place? k =
+      both? (decLt k (length objectors)) (either? (decLe (length marks) (getD objectors k 0))
+      (decLe (length marks) (getD targets k 0)))
 
   repeat? : (k : ℕ) → Dec (Repeat objectors targets k)
-  repeat? k = both? (decLt k (length objectors)) (go (first-below Earlier (λ j. both? (decLt j k) (both? (ℕ-discrete (getD objectors j 0) (getD objectors k 0)) (ℕ-discrete (getD targets j 0) (getD targets k 0)))) k))
+  repeat? k =
+      both? (decLt k (length objectors)) (go (first-below Earlier
+      (λ j. both? (decLt j k) (both? (ℕ-discrete (getD objectors j 0) (getD objectors k 0))
+      (ℕ-discrete (getD targets j 0) (getD targets k 0)))) k))
     where
       Earlier : ℕ → Type 0
       Earlier j = (j < k) × Same objectors targets (getD objectors k 0) (getD targets k 0) j
 
-      go : ((j : ℕ) × First Earlier j) ⊎ ((j : ℕ) → j < k → ¬ Earlier j) → Dec ((j : ℕ) × (j < k) × Same objectors targets (getD objectors k 0) (getD targets k 0) j)
+      go : ((j : ℕ) × First Earlier j) ⊎ ((j : ℕ) → j < k → ¬ Earlier j)
+          → Dec ((j : ℕ) × (j < k) × Same objectors targets (getD objectors k 0) (getD targets k 0) j)
       go (inl (j, f)) = yes (j, f .0 .0, f .0 .1)
       go (inr f) = no (λ w. f (w .0) (w .1) (w .1, w .2))
 
   marks-found : ((k : ℕ) × First (BadMark marks) k) ⊎ ((k : ℕ) → k < length marks → ¬ BadMark marks k)
   marks-found = first-below (BadMark marks) mark? (length marks)
 
-  places-found : ((k : ℕ) × First (BadPlace marks objectors targets) k) ⊎ ((k : ℕ) → k < length objectors → ¬ BadPlace marks objectors targets k)
+  places-found : ((k : ℕ) × First (BadPlace marks objectors targets) k)
+      ⊎ ((k : ℕ) → k < length objectors → ¬ BadPlace marks objectors targets k)
   places-found = first-below (BadPlace marks objectors targets) place? (length objectors)
 
   repeats-found : ((k : ℕ) × First (Repeat objectors targets) k) ⊎ ((k : ℕ) → k < length objectors → ¬ Repeat objectors targets k)
@@ -170,23 +184,35 @@ module _ (marks objectors targets : List ℕ) where
   unfolding by-pairs
   past-pairs e m n = past-marks e m ∙ row-passes (decLt 4096 (length objectors)) (Objections 0) by-mark (λ h. omega arith)
 
-  past-mark : length targets ≡ length objectors → length marks ≤ 1024 → length objectors ≤ 4096 → ((j : ℕ) → ¬ BadMark marks j) → refusal ≡ by-place
+  past-mark : length targets ≡ length objectors → length marks ≤ 1024 → length objectors ≤ 4096 → ((j : ℕ) → ¬ BadMark marks j)
+      → refusal ≡ by-place
   unfolding by-mark
   past-mark e m n f = past-pairs e m n ∙ entries-pass (BadMark marks) (length marks) (λ k p. p .0) marks-found Mark by-place f
 
-  past-place : length targets ≡ length objectors → length marks ≤ 1024 → length objectors ≤ 4096 → ((j : ℕ) → ¬ BadMark marks j) → ((j : ℕ) → ¬ BadPlace marks objectors targets j) → refusal ≡ by-repeat
+  past-place : length targets ≡ length objectors → length marks ≤ 1024 → length objectors ≤ 4096 → ((j : ℕ) → ¬ BadMark marks j)
+      → ((j : ℕ) → ¬ BadPlace marks objectors targets j) → refusal ≡ by-repeat
   unfolding by-place
-  past-place e m n f g = past-mark e m n f ∙ entries-pass (BadPlace marks objectors targets) (length objectors) (λ k p. p .0) places-found Place by-repeat g
+  past-place e m n f g =
+      past-mark e m n f ∙ entries-pass (BadPlace marks objectors targets) (length objectors) (λ k p. p .0) places-found Place
+      by-repeat g
 
   -- whatever refusal the lists get, it is this one
   refuses-is : (r : Refusal) → Refuses marks objectors targets r → refusal ≡ some r
   unfolding refusal by-marks by-pairs by-mark by-place by-repeat
   refuses-is Unequal p = row-applies (not? (ℕ-discrete (length targets) (length objectors))) Unequal by-marks p
-  refuses-is (Statements k) (e, h, z) = past-unequal e ∙ row-applies (decLt 1024 (length marks)) (Statements 0) by-pairs h ∙ ap (λ j. some (Statements j)) (sym z)
-  refuses-is (Objections k) (e, m, h, z) = past-marks e m ∙ row-applies (decLt 4096 (length objectors)) (Objections 0) by-mark h ∙ ap (λ j. some (Objections j)) (sym z)
-  refuses-is (Mark k) (e, m, n, p) = past-pairs e m n ∙ entries-first (BadMark marks) (length marks) (λ k p. p .0) marks-found Mark by-place k p
-  refuses-is (Place k) (e, m, n, f, p) = past-mark e m n f ∙ entries-first (BadPlace marks objectors targets) (length objectors) (λ k p. p .0) places-found Place by-repeat k p
-  refuses-is (Repeated k) (e, m, n, f, g, p) = past-place e m n f g ∙ entries-first (Repeat objectors targets) (length objectors) (λ k p. p .0) repeats-found Repeated none k p
+  refuses-is (Statements k) (e, h, z) =
+      past-unequal e ∙ row-applies (decLt 1024 (length marks)) (Statements 0) by-pairs h ∙ ap (λ j. some (Statements j)) (sym z)
+  refuses-is (Objections k) (e, m, h, z) =
+      past-marks e m ∙ row-applies (decLt 4096 (length objectors)) (Objections 0) by-mark h
+      ∙ ap (λ j. some (Objections j)) (sym z)
+  refuses-is (Mark k) (e, m, n, p) =
+      past-pairs e m n ∙ entries-first (BadMark marks) (length marks) (λ k p. p .0) marks-found Mark by-place k p
+  refuses-is (Place k) (e, m, n, f, p) =
+      past-mark e m n f ∙ entries-first (BadPlace marks objectors targets) (length objectors) (λ k p. p .0) places-found Place
+      by-repeat k p
+  refuses-is (Repeated k) (e, m, n, f, g, p) =
+      past-place e m n f g ∙ entries-first (Repeat objectors targets) (length objectors) (λ k p. p .0) repeats-found Repeated none
+      k p
   refuses-is TooLong p = absurd p
   refuses-is Unended p = absurd p
   refuses-is (Spoiled k) p = absurd p
@@ -210,15 +236,20 @@ module _ (marks objectors targets : List ℕ) where
       Equal : Type 0
       Equal = length targets ≡ length objectors
 
-      repeats : Equal → length marks ≤ 1024 → length objectors ≤ 4096 → ((j : ℕ) → ¬ BadMark marks j) → ((j : ℕ) → ¬ BadPlace marks objectors targets j) → ((k : ℕ) × First (Repeat objectors targets) k) ⊎ ((k : ℕ) → k < length objectors → ¬ Repeat objectors targets k) → Settled
+      repeats : Equal → length marks ≤ 1024 → length objectors ≤ 4096 → ((j : ℕ) → ¬ BadMark marks j)
+          → ((j : ℕ) → ¬ BadPlace marks objectors targets j) → ((k : ℕ) × First (Repeat objectors targets) k)
+          ⊎ ((k : ℕ) → k < length objectors → ¬ Repeat objectors targets k) → Settled
       repeats e m n f g (inl (k, p)) = inr (Repeated k, (e, m, n, f, g, p))
       repeats e m n f g (inr h) = inl (accepted marks objectors targets e m n f g (λ j p. h j (p .0) p))
 
-      places : Equal → length marks ≤ 1024 → length objectors ≤ 4096 → ((j : ℕ) → ¬ BadMark marks j) → ((k : ℕ) × First (BadPlace marks objectors targets) k) ⊎ ((k : ℕ) → k < length objectors → ¬ BadPlace marks objectors targets k) → Settled
+      places : Equal → length marks ≤ 1024 → length objectors ≤ 4096 → ((j : ℕ) → ¬ BadMark marks j)
+          → ((k : ℕ) × First (BadPlace marks objectors targets) k)
+          ⊎ ((k : ℕ) → k < length objectors → ¬ BadPlace marks objectors targets k) → Settled
       places e m n f (inl (k, p)) = inr (Place k, (e, m, n, f, p))
       places e m n f (inr h) = repeats e m n f (λ j p. h j (p .0) p) repeats-found
 
-      each-mark : Equal → length marks ≤ 1024 → length objectors ≤ 4096 → ((k : ℕ) × First (BadMark marks) k) ⊎ ((k : ℕ) → k < length marks → ¬ BadMark marks k) → Settled
+      each-mark : Equal → length marks ≤ 1024 → length objectors ≤ 4096 → ((k : ℕ) × First (BadMark marks) k)
+          ⊎ ((k : ℕ) → k < length marks → ¬ BadMark marks k) → Settled
       each-mark e m n (inl (k, p)) = inr (Mark k, (e, m, n, p))
       each-mark e m n (inr h) = places e m n (λ j p. h j (p .0) p) places-found
 
@@ -238,6 +269,7 @@ module _ (marks objectors targets : List ℕ) where
   pub accepted-exactly : Lists marks objectors targets ↔ ((r : Refusal) → ¬ Refuses marks objectors targets r)
   accepted-exactly = (not-both marks objectors targets, λ f. go f settled)
     where
-      go : ((r : Refusal) → ¬ Refuses marks objectors targets r) → Lists marks objectors targets ⊎ ((r : Refusal) × Refuses marks objectors targets r) → Lists marks objectors targets
+      go : ((r : Refusal) → ¬ Refuses marks objectors targets r) → Lists marks objectors targets
+          ⊎ ((r : Refusal) × Refuses marks objectors targets r) → Lists marks objectors targets
       go f (inl a) = a
       go f (inr (r, p)) = absurd (f r p)

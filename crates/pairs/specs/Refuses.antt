@@ -18,7 +18,8 @@ BadMark marks k = (k < length marks) × (1 < getD marks k 0)
 
 -- 13: "a place outside the mark list"
 abbrev pub BadPlace : (marks objectors targets : List ℕ) → ℕ → Type 0
-BadPlace marks objectors targets k = (k < length objectors) × ((length marks ≤ getD objectors k 0) ⊎ (length marks ≤ getD targets k 0))
+BadPlace marks objectors targets k =
+    (k < length objectors) × ((length marks ≤ getD objectors k 0) ⊎ (length marks ≤ getD targets k 0))
 
 -- the entry j is the objection of y against x
 abbrev pub Same : (objectors targets : List ℕ) → ℕ → ℕ → ℕ → Type 0
@@ -26,7 +27,8 @@ Same objectors targets y x j = (getD objectors j 0 ≡ y) × (getD targets j 0 �
 
 -- 8: "same objector and target as earlier"
 abbrev pub Repeat : (objectors targets : List ℕ) → ℕ → Type 0
-Repeat objectors targets k = (k < length objectors) × ((j : ℕ) × (j < k) × Same objectors targets (getD objectors k 0) (getD targets k 0) j)
+Repeat objectors targets k =
+    (k < length objectors) × ((j : ℕ) × (j < k) × Same objectors targets (getD objectors k 0) (getD targets k 0) j)
 
 module _ (marks objectors targets : List ℕ) where
   -- equal lengths, within the limits, marks 0 or 1, places inside, no pair twice
@@ -41,9 +43,14 @@ module _ (marks objectors targets : List ℕ) where
   Refuses Unequal = ¬ (length targets ≡ length objectors)
   Refuses (Statements p) = (length targets ≡ length objectors) × (1024 < length marks) × (p ≡ 0)
   Refuses (Objections p) = (length targets ≡ length objectors) × (length marks ≤ 1024) × (4096 < length objectors) × (p ≡ 0)
-  Refuses (Mark k) = (length targets ≡ length objectors) × (length marks ≤ 1024) × (length objectors ≤ 4096) × First (BadMark marks) k
-  Refuses (Place k) = (length targets ≡ length objectors) × (length marks ≤ 1024) × (length objectors ≤ 4096) × ((j : ℕ) → ¬ BadMark marks j) × First (BadPlace marks objectors targets) k
-  Refuses (Repeated k) = (length targets ≡ length objectors) × (length marks ≤ 1024) × (length objectors ≤ 4096) × ((j : ℕ) → ¬ BadMark marks j) × ((j : ℕ) → ¬ BadPlace marks objectors targets j) × First (Repeat objectors targets) k
+  Refuses (Mark k) =
+      (length targets ≡ length objectors) × (length marks ≤ 1024) × (length objectors ≤ 4096) × First (BadMark marks) k
+  Refuses (Place k) =
+      (length targets ≡ length objectors) × (length marks ≤ 1024) × (length objectors ≤ 4096) × ((j : ℕ) → ¬ BadMark marks j)
+      × First (BadPlace marks objectors targets) k
+  Refuses (Repeated k) =
+      (length targets ≡ length objectors) × (length marks ≤ 1024) × (length objectors ≤ 4096) × ((j : ℕ) → ¬ BadMark marks j)
+      × ((j : ℕ) → ¬ BadPlace marks objectors targets j) × First (Repeat objectors targets) k
   Refuses TooLong = ⊥
   Refuses Unended = ⊥
   Refuses (Spoiled k) = ⊥

@@ -30,7 +30,8 @@ pub fn bad_mark(marks: &[u8]) -> usize
 // The first pair with a place outside the mark list, or the number of pairs.
 pub fn bad_place(marks: &[u8], objectors: &[u32], targets: &[u32]) -> usize
     requires { ⌜ length (now targets) ≡ length (now objectors) ⌝ }
-    ensures { λ r. ⌜ Found (BadPlace (now (marks .entry)) (now (objectors .entry)) (now (targets .entry))) (length (now (objectors .entry))) r ⌝ }
+    ensures { λ r. ⌜ Found (BadPlace (now (marks .entry)) (now (objectors .entry)) (now (targets .entry)))
+        (length (now (objectors .entry))) r ⌝ }
 {
     let mut k = 0;
     while k < objectors.len() {

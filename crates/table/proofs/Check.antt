@@ -45,7 +45,14 @@ value n (d ∷ ds) = value (n * 10 + (d - 48)) ds
 
 add : (kind second third : List ℕ) → Register → Register
 add k a b R =
-    cond (eqb (getD k 0 0) 83) (record { statements = record { number = value 0 a; mark = cond (eqb (getD b 0 0) 82) Read Unread } ∷ R .statements; objections = R .objections }) (record { statements = R .statements; objections = record { objector = value 0 a; target = value 0 b } ∷ R .objections })
+    cond (eqb (getD k 0 0) 83) (record {
+      statements = record {
+        number = value 0 a;
+        mark = cond (eqb (getD b 0 0) 82) Read Unread;
+      } ∷ R .statements;
+      objections = R .objections;
+    })
+    (record { statements = R .statements; objections = record { objector = value 0 a; target = value 0 b } ∷ R .objections })
 
 guess : List (List ℕ) → Register
 guess [] = record { statements = []; objections = [] }
@@ -84,7 +91,9 @@ module _ (R : Register) where
 
   issued-is : (n : ℕ) → T (issued n) → Issued R n
   unfolding issued
-  issued-is n t = let (i, h, e) = any-at (length (numbers R)) (λ i. eqb (getD (numbers R) i 0) n) t in (i, h, eqb→eq (getD (numbers R) i 0) n e)
+  issued-is n t =
+      let (i, h, e) = any-at (length (numbers R)) (λ i. eqb (getD (numbers R) i 0) n) t in
+      (i, h, eqb→eq (getD (numbers R) i 0) n e)
 
   numbered : ℕ → Bool
   numbered i = ltb 0 (getD (numbers R) i 0) && ltb (getD (numbers R) i 0) 100000000
@@ -96,28 +105,51 @@ module _ (R : Register) where
   known k = issued (getD (objectorNumbers R) k 0) && issued (getD (targetNumbers R) k 0)
 
   distinct : ℕ → ℕ → Bool
-  distinct k j = not (eqb (getD (objectorNumbers R) j 0) (getD (objectorNumbers R) k 0) && eqb (getD (targetNumbers R) j 0) (getD (targetNumbers R) k 0))
+  distinct k j =
+      not (eqb (getD (objectorNumbers R) j 0) (getD (objectorNumbers R) k 0) && eqb (getD (targetNumbers R) j 0)
+      (getD (targetNumbers R) k 0))
 
   ordered : Bool
   ordered =
       (leb (length (R .statements)) 1024 && leb (length (R .objections)) 4096)
-      && ((all (length (numbers R)) numbered && all (length (numbers R)) (λ j. all j (differ j))) && (all (length (R .objections)) known && all (length (R .objections)) (λ k. all k (distinct k))))
+      && ((all (length (numbers R)) numbered && all (length (numbers R)) (λ j. all j (differ j))) &&
+      (all (length (R .objections)) known && all (length (R .objections)) (λ k. all k (distinct k))))
 
   ordered-is : T ordered → Valid R
   unfolding ordered numbered differ known distinct
   ordered-is t =
-      let (limits, rest) = both (leb (length (R .statements)) 1024 && leb (length (R .objections)) 4096) ((all (length (numbers R)) numbered && all (length (numbers R)) (λ j. all j (differ j))) && (all (length (R .objections)) known && all (length (R .objections)) (λ k. all k (distinct k)))) t in
+      let (limits, rest) = both (leb (length (R .statements)) 1024 && leb (length (R .objections)) 4096)
+      ((all (length (numbers R)) numbered && all (length (numbers R)) (λ j. all j (differ j))) &&
+      (all (length (R .objections)) known && all (length (R .objections)) (λ k. all k (distinct k)))) t in
       let (s, o) = both (leb (length (R .statements)) 1024) (leb (length (R .objections)) 4096) limits in
-      let (ns, os) = both (all (length (numbers R)) numbered && all (length (numbers R)) (λ j. all j (differ j))) (all (length (R .objections)) known && all (length (R .objections)) (λ k. all k (distinct k))) rest in
+      let (ns, os) = both (all (length (numbers R)) numbered && all (length (numbers R)) (λ j. all j (differ j)))
+      (all (length (R .objections)) known && all (length (R .objections)) (λ k. all k (distinct k))) rest in
       let (n, d) = both (all (length (numbers R)) numbered) (all (length (numbers R)) (λ j. all j (differ j))) ns in
       let (k, e) = both (all (length (R .objections)) known) (all (length (R .objections)) (λ k. all k (distinct k))) os in
       record {
         few-statements = leb→le (length (R .statements)) 1024 s;
         few-objections = leb→le (length (R .objections)) 4096 o;
-        numbered = λ i h. let (a, b) = both (ltb 0 (getD (numbers R) i 0)) (ltb (getD (numbers R) i 0) 100000000) (all-at (length (numbers R)) numbered n i h) in (ltb→lt 0 (getD (numbers R) i 0) a, ltb→lt (getD (numbers R) i 0) 100000000 b);
-        once = λ i j h l q. T-not (eqb (getD (numbers R) i 0) (getD (numbers R) j 0)) (all-at j (differ j) (all-at (length (numbers R)) (λ j. all j (differ j)) d j l) i h) (equal q);
-        known = λ i h. let (a, b) = both (issued (getD (objectorNumbers R) i 0)) (issued (getD (targetNumbers R) i 0)) (all-at (length (R .objections)) known k i h) in (issued-is (getD (objectorNumbers R) i 0) a, issued-is (getD (targetNumbers R) i 0) b);
-        distinct = λ j i h l p q. T-not (eqb (getD (objectorNumbers R) j 0) (getD (objectorNumbers R) i 0) && eqb (getD (targetNumbers R) j 0) (getD (targetNumbers R) i 0)) (all-at i (distinct i) (all-at (length (R .objections)) (λ k. all k (distinct k)) e i l) j h) (and-of (eqb (getD (objectorNumbers R) j 0) (getD (objectorNumbers R) i 0)) (eqb (getD (targetNumbers R) j 0) (getD (targetNumbers R) i 0)) (equal p) (equal q));
+        numbered =
+            λ i h. let (a, b) = both (ltb 0 (getD (numbers R) i 0)) (ltb (getD (numbers R) i 0) 100000000)
+            (all-at (length (numbers R)) numbered n i h) in (
+              ltb→lt 0 (getD (numbers R) i 0) a,
+              ltb→lt (getD (numbers R) i 0) 100000000 b,
+            );
+        once =
+            λ i j h l q. T-not (eqb (getD (numbers R) i 0) (getD (numbers R) j 0))
+            (all-at j (differ j) (all-at (length (numbers R)) (λ j. all j (differ j)) d j l) i h) (equal q);
+        known =
+            λ i h. let (a, b) = both (issued (getD (objectorNumbers R) i 0)) (issued (getD (targetNumbers R) i 0))
+            (all-at (length (R .objections)) known k i h) in (
+              issued-is (getD (objectorNumbers R) i 0) a,
+              issued-is (getD (targetNumbers R) i 0) b,
+            );
+        distinct =
+            λ j i h l p q. T-not (eqb (getD (objectorNumbers R) j 0) (getD (objectorNumbers R) i 0) && eqb
+            (getD (targetNumbers R) j 0) (getD (targetNumbers R) i 0))
+            (all-at i (distinct i) (all-at (length (R .objections)) (λ k. all k (distinct k)) e i l) j h)
+            (and-of (eqb (getD (objectorNumbers R) j 0) (getD (objectorNumbers R) i 0))
+            (eqb (getD (targetNumbers R) j 0) (getD (targetNumbers R) i 0)) (equal p) (equal q));
       }
 
 -- The text is accepted as the register.
@@ -155,16 +187,25 @@ module _ (R : Register) where
     unfolding verdictAt
     verdict-is x h = verdict-means (book R) x h
 
-    kind-is : (k : ℕ) → k < length (R .objections) → OfKind (book R) (getD (objectorsOf R) k 0) (getD (targetsOf R) k 0) (kindAt k)
+    kind-is : (k : ℕ) → k < length (R .objections) → OfKind (book R) (getD (objectorsOf R) k 0) (getD (targetsOf R) k 0)
+        (kindAt k)
     unfolding kindAt bookOf
     kind-is k h =
         let y : ℕ = getD (objectorsOf R) k 0 in
         let x : ℕ = getD (targetsOf R) k 0 in
         let l : k < length (objectorsOf R) = omega (arith, objectors-counted R valid) in
-        let o : Objects (book R) y x = objects-entry (marksOf R) (objectorsOf R) (targetsOf R) y x .1 (register-in-order R valid .objector k l, (k, (l, refl, refl))) in
+        let o : Objects (book R) y x = objects-entry (marksOf R) (objectorsOf R) (targetsOf R) y x .1
+        (register-in-order R valid .objector k l, (k, (l, refl, refl))) in
         let p : Means (book R) x (verdictAt x) = verdict-is x (register-in-order R valid .target k l) in
         let q : Means (book R) y (verdictAt y) = verdict-is y (o .0) in
-        record { target = verdictAt x; objector = verdictAt y; objects = o; target-means = p; objector-means = q; is = some-is (kindOf (verdictAt x) (verdictAt y)) (never-occurs (book R) y x (verdictAt x) (verdictAt y) o p q) }
+        record {
+          target = verdictAt x;
+          objector = verdictAt y;
+          objects = o;
+          target-means = p;
+          objector-means = q;
+          is = some-is (kindOf (verdictAt x) (verdictAt y)) (never-occurs (book R) y x (verdictAt x) (verdictAt y) o p q);
+        }
 
     listing-is : (l : List ℕ) → T (same l listingOf) → IsListing R l
     unfolding listingOf
@@ -194,15 +235,24 @@ module _ (B F : Book) where
   finishing-is : T finishing → Finish B F
   unfolding finishing kept added
   finishing-is t =
-      let (p, each) = both (leb (B .size) (F .size) && all (F .size) (λ x. not (F .unread x))) (all (B .size) (λ x. all (B .size) (kept x) && (B .unread x || all (F .size) (added x)))) t in
+      let (p, each) = both (leb (B .size) (F .size) && all (F .size) (λ x. not (F .unread x)))
+      (all (B .size) (λ x. all (B .size) (kept x) && (B .unread x || all (F .size) (added x)))) t in
       let (m, r) = both (leb (B .size) (F .size)) (all (F .size) (λ x. not (F .unread x))) p in
-      let at : (x : ℕ) → Listed B x → T (all (B .size) (kept x)) × T (B .unread x || all (F .size) (added x)) = λ x h. both (all (B .size) (kept x)) (B .unread x || all (F .size) (added x)) (all-at (B .size) (λ x. all (B .size) (kept x) && (B .unread x || all (F .size) (added x))) each x h) in
+      let at : (x : ℕ) → Listed B x → T (all (B .size) (kept x))
+      × T (B .unread x || all (F .size) (added x)) = λ x h. both (all (B .size) (kept x))
+      (B .unread x || all (F .size) (added x)) (all-at (B .size)
+      (λ x. all (B .size) (kept x) && (B .unread x || all (F .size) (added x))) each x h) in
       record {
         more = leb→le (B .size) (F .size) m;
-        keeps = λ y x h o. (omega (arith, leb→le (B .size) (F .size) m, o .0), only-if (B .objects y x) (F .objects y x) (all-at (B .size) (kept x) (at x h .0) y (o .0)) (o .1));
+        keeps =
+            λ y x h o. (
+              omega (arith, leb→le (B .size) (F .size) m, o .0),
+              only-if (B .objects y x) (F .objects y x) (all-at (B .size) (kept x) (at x h .0) y (o .0)) (o .1),
+            );
         adds-none = λ y x h read o.
             let none-added : T (all (F .size) (added x)) = or-second (B .unread x) (all (F .size) (added x)) read (at x h .1) in
-            let (l, u) = both (ltb y (B .size)) (B .objects y x) (only-if (F .objects y x) (ltb y (B .size) && B .objects y x) (all-at (F .size) (added x) none-added y (o .0)) (o .1)) in
+            let (l, u) = both (ltb y (B .size)) (B .objects y x) (only-if (F .objects y x) (ltb y (B .size) && B .objects y x)
+            (all-at (F .size) (added x) none-added y (o .0)) (o .1)) in
             (ltb→lt y (B .size) l, u);
         read = λ x h. all-at (F .size) (λ x. not (F .unread x)) r x h;
       }
@@ -221,11 +271,19 @@ passes-is (lists text listing) t =
     let accepts : Accepts (ascii text) (registerOf text) = accepted-is (ascii text) (registerOf text) a in
     (registerOf text, accepts, listing-is (registerOf text) (accepts .valid) (ascii listing) l)
 passes-is (finishes text finish listing) t =
-    let (p, q) = both (accepted (ascii text) (registerOf text) && finishing (book (registerOf text)) (book (registerOf finish))) (accepted (ascii finish) (registerOf finish) && same (ascii listing) (listingOf (registerOf finish))) t in
-    let (a, f) = both (accepted (ascii text) (registerOf text)) (finishing (book (registerOf text)) (book (registerOf finish))) p in
+    let (p, q) = both (accepted (ascii text) (registerOf text) && finishing (book (registerOf text)) (book (registerOf finish)))
+    (accepted (ascii finish) (registerOf finish) && same (ascii listing) (listingOf (registerOf finish))) t in
+    let (a, f) = both (accepted (ascii text) (registerOf text)) (finishing (book (registerOf text)) (book (registerOf finish)))
+    p in
     let (b, l) = both (accepted (ascii finish) (registerOf finish)) (same (ascii listing) (listingOf (registerOf finish))) q in
-    let accepts : Accepts (ascii finish) (registerOf finish) = accepted-is (ascii finish) (registerOf finish) b in
-    (registerOf text, registerOf finish, accepted-is (ascii text) (registerOf text) a, accepts, finishing-is (book (registerOf text)) (book (registerOf finish)) f, listing-is (registerOf finish) (accepts .valid) (ascii listing) l)
+    let accepts : Accepts (ascii finish) (registerOf finish) = accepted-is (ascii finish) (registerOf finish) b in (
+      registerOf text,
+      registerOf finish,
+      accepted-is (ascii text) (registerOf text) a,
+      accepts,
+      finishing-is (book (registerOf text)) (book (registerOf finish)) f,
+      listing-is (registerOf finish) (accepts .valid) (ascii listing) l,
+    )
 
 pass : List Row → Bool
 pass [] = true
@@ -238,7 +296,9 @@ pass-is (r ∷ rs) t = let (p, q) = both (passes r) (pass rs) t in (passes-is r 
 
 -- Every example that 01 marks P holds.
 pub table-holds : Every Says table
-unfolding table ascii extend fields value add guess registerOf same issued numbered differ known distinct ordered accepted verdictAt kindAt listingOf kept added finishing passes pass any all bookOf standsWithin fallsWithin verdict verdictBy decimal decimalIn bytes placeOf numbersRow statementRow statementRows objectionRow objectionRows
+unfolding table ascii extend fields value add guess registerOf same issued numbered differ known distinct ordered accepted
+    verdictAt kindAt listingOf kept added finishing passes pass any all bookOf standsWithin fallsWithin verdict verdictBy decimal
+    decimalIn bytes placeOf numbersRow statementRow statementRows objectionRow objectionRows
 table-holds = pass-is table tt
 
 -- Two of the table's registers by name, for those who need the register itself: the lone read statement, and the chain of four.
@@ -247,8 +307,11 @@ lone = record { statements = record { number = 1; mark = Read } ∷ []; objectio
 
 unfoldable pub chain : Register
 chain = record {
-  statements = record { number = 1; mark = Unread } ∷ record { number = 2; mark = Read } ∷ record { number = 3; mark = Read } ∷ record { number = 4; mark = Read } ∷ [];
-  objections = record { objector = 4; target = 3 } ∷ record { objector = 3; target = 2 } ∷ record { objector = 2; target = 1 } ∷ [];
+  statements =
+      record { number = 1; mark = Unread } ∷ record { number = 2; mark = Read } ∷ record { number = 3; mark = Read } ∷ record
+      { number = 4; mark = Read } ∷ [];
+  objections =
+      record { objector = 4; target = 3 } ∷ record { objector = 3; target = 2 } ∷ record { objector = 2; target = 1 } ∷ [];
 }
 
 pub lone-accepted : Accepts (ascii "S\t1\tR\n") lone

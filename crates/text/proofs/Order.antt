@@ -22,7 +22,9 @@ unfolding placeOf
 place-listed [] v i l e = absurd (not-suc-le-zero l)
 place-listed (a ∷ ns) v i l e = go (ℕ-discrete a v) i l e (λ j k q. place-listed ns v j k q)
   where
-    go : Dec (a ≡ v) → (i : ℕ) → i < length (a ∷ ns) → getD (a ∷ ns) i 0 ≡ v → ((j : ℕ) → j < length ns → getD ns j 0 ≡ v → placeOf ns v < length ns) → pick (eqb a v) 0 (suc (placeOf ns v)) < length (a ∷ ns)
+    go : Dec (a ≡ v) → (i : ℕ) → i < length (a ∷ ns) → getD (a ∷ ns) i 0 ≡ v
+        → ((j : ℕ) → j < length ns → getD ns j 0 ≡ v → placeOf ns v < length ns)
+        → pick (eqb a v) 0 (suc (placeOf ns v)) < length (a ∷ ns)
     go (yes p) i l e f = rw (eq-eqb a v p) (omega arith)
     go (no p) zero l e f = absurd (p e)
     go (no p) (suc i) l e f = rw (ne-eqb a v p) (let h : placeOf ns v < length ns = f i (le-of-suc-le-suc l) e in omega arith)
@@ -39,10 +41,12 @@ module _ (R : Register) (valid : Valid R) where
   marks-counted = length-map (R .statements) (λ (st : StatementLine). markNumber (st .mark))
 
   pub objectors-counted : length (objectorsOf R) ≡ length (R .objections)
-  objectors-counted = length-map (objectorNumbers R) (placeOf (numbers R)) ∙ length-map (R .objections) (λ (o : ObjectionLine). o .objector)
+  objectors-counted =
+      length-map (objectorNumbers R) (placeOf (numbers R)) ∙ length-map (R .objections) (λ (o : ObjectionLine). o .objector)
 
   pub targets-counted : length (targetsOf R) ≡ length (R .objections)
-  targets-counted = length-map (targetNumbers R) (placeOf (numbers R)) ∙ length-map (R .objections) (λ (o : ObjectionLine). o .target)
+  targets-counted =
+      length-map (targetNumbers R) (placeOf (numbers R)) ∙ length-map (R .objections) (λ (o : ObjectionLine). o .target)
 
   pub numbers-counted : length (numbers R) ≡ length (marksOf R)
   numbers-counted = length-map (R .statements) (λ (st : StatementLine). st .number) ∙ sym marks-counted
@@ -63,6 +67,12 @@ module _ (R : Register) (valid : Valid R) where
   register-in-order = record {
     paired = targets-counted ∙ sym objectors-counted;
     marked = λ x h. low-marks (R .statements) x;
-    objector = λ k h. rw (mapped (placeOf (numbers R)) (objectorNumbers R) k (omega (arith, h, objectors-counted, length-map (R .objections) (λ (o : ObjectionLine). o .objector)))) (listed (getD (objectorNumbers R) k 0) (valid .known k (omega (arith, h, objectors-counted)) .0));
-    target = λ k h. rw (mapped (placeOf (numbers R)) (targetNumbers R) k (omega (arith, h, objectors-counted, length-map (R .objections) (λ (o : ObjectionLine). o .target)))) (listed (getD (targetNumbers R) k 0) (valid .known k (omega (arith, h, objectors-counted)) .1));
+    objector =
+        λ k h. rw (mapped (placeOf (numbers R)) (objectorNumbers R) k
+        (omega (arith, h, objectors-counted, length-map (R .objections) (λ (o : ObjectionLine). o .objector))))
+        (listed (getD (objectorNumbers R) k 0) (valid .known k (omega (arith, h, objectors-counted)) .0));
+    target =
+        λ k h. rw (mapped (placeOf (numbers R)) (targetNumbers R) k
+        (omega (arith, h, objectors-counted, length-map (R .objections) (λ (o : ObjectionLine). o .target))))
+        (listed (getD (targetNumbers R) k 0) (valid .known k (omega (arith, h, objectors-counted)) .1));
   }

@@ -96,13 +96,18 @@ module _ (s : List ℕ) where
 
   objection? : Settles ((y : ℕ) × (y < 100000000) × ((x : ℕ) × (x < 100000000) × ObjectionThere y x))
   unfolding ObjectionThere
-  objection? = below? 100000000 (λ y. (x : ℕ) × (x < 100000000) × ObjectionThere y x) (λ y. below? 100000000 (ObjectionThere y) (λ x. stands? (Objection (record { objector = y; target = x })) s))
+  objection? =
+      below? 100000000 (λ y. (x : ℕ) × (x < 100000000) × ObjectionThere y x)
+      (λ y. below? 100000000 (ObjectionThere y) (λ x. stands? (Objection (record { objector = y; target = x })) s))
 
   line? : ((l : Line) × BeginsWith l s) ⊎ ((l : Line) → ¬ BeginsWith l s)
   unfolding StatementThere ObjectionThere
   line? = go (statement? Read) (statement? Unread) objection?
     where
-      go : Settles ((n : ℕ) × (n < 100000000) × StatementThere Read n) → Settles ((n : ℕ) × (n < 100000000) × StatementThere Unread n) → Settles ((y : ℕ) × (y < 100000000) × ((x : ℕ) × (x < 100000000) × ObjectionThere y x)) → ((l : Line) × BeginsWith l s) ⊎ ((l : Line) → ¬ BeginsWith l s)
+      go : Settles ((n : ℕ) × (n < 100000000) × StatementThere Read n)
+          → Settles ((n : ℕ) × (n < 100000000) × StatementThere Unread n)
+          → Settles ((y : ℕ) × (y < 100000000) × ((x : ℕ) × (x < 100000000) × ObjectionThere y x)) → ((l : Line) × BeginsWith l s)
+          ⊎ ((l : Line) → ¬ BeginsWith l s)
       go (inl (n, h, b)) q r = inl (Statement (record { number = n; mark = Read }), b)
       go (inr p) (inl (n, h, b)) r = inl (Statement (record { number = n; mark = Unread }), b)
       go (inr p) (inr q) (inl (y, h, (x, k, b))) = inl (Objection (record { objector = y; target = x }), b)
@@ -120,9 +125,12 @@ issued? : (R : Register) (n : ℕ) → Settles (OnRegister R n)
 issued? R n = below? (length (numbers R)) (λ i. getD (numbers R) i 0 ≡ n) (λ i. same? (getD (numbers R) i 0) n)
 
 has? : (R : Register) (y x : ℕ) → Settles (Has R y x)
-has? R y x = go (below? (length (R .objections)) (λ k. (getD (objectorNumbers R) k 0 ≡ y) × (getD (targetNumbers R) k 0 ≡ x)) (λ k. both? (same? (getD (objectorNumbers R) k 0) y) (same? (getD (targetNumbers R) k 0) x)))
+has? R y x =
+    go (below? (length (R .objections)) (λ k. (getD (objectorNumbers R) k 0 ≡ y) × (getD (targetNumbers R) k 0 ≡ x))
+    (λ k. both? (same? (getD (objectorNumbers R) k 0) y) (same? (getD (targetNumbers R) k 0) x)))
   where
-    go : Settles ((k : ℕ) × (k < length (R .objections)) × ((getD (objectorNumbers R) k 0 ≡ y) × (getD (targetNumbers R) k 0 ≡ x))) → Settles (Has R y x)
+    go : Settles ((k : ℕ) × (k < length (R .objections)) × ((getD (objectorNumbers R) k 0 ≡ y)
+        × (getD (targetNumbers R) k 0 ≡ x))) → Settles (Has R y x)
     go (inl (k, h, (a, b))) = inl (k, h, a, b)
     go (inr n) = inr (λ w. n (w .0, w .1, (w .2, w .3)))
 
@@ -136,8 +144,10 @@ nil (b ∷ u) = ap (λ v. b ∷ v) (nil u)
 
 -- a text that fits and is ended, line by line
 module _ (s : List ℕ) (fits : length s ≤ 65535) (ended : ¬ NotEnded s) where
-  reached : (R : Register) (rest : List ℕ) (Fault : Register → List ℕ → Type 0) → Valid R → s ≡ written R ++ rest → Fault R rest → Reached s (suc (length (R .statements) + length (R .objections))) Fault
-  reached R rest Fault v e f = record { fits = fits; ended = ended; before = R; rest = rest; valid = v; is-written = e; line = refl; fault = f }
+  reached : (R : Register) (rest : List ℕ) (Fault : Register → List ℕ → Type 0) → Valid R → s ≡ written R ++ rest → Fault R rest
+      → Reached s (suc (length (R .statements) + length (R .objections))) Fault
+  reached R rest Fault v e f =
+      record { fits = fits; ended = ended; before = R; rest = rest; valid = v; is-written = e; line = refl; fault = f }
 
   -- what is left after a line is shorter
   further : (l : Line) (rest left : List ℕ) → rest ≡ lineBytes l ++ left → length left < length rest
@@ -148,34 +158,45 @@ module _ (s : List ℕ) (fits : length s ≤ 65535) (ended : ¬ NotEnded s) wher
   passed a b rest left l w e f = e ∙ ap (λ u. a ++ u) f ∙ sym (append-assoc a (lineBytes l) left) ∙ ap (λ u. u ++ left) (sym w)
 
   -- one line, from a register that was read so far; `again` settles what is left behind it
-  module _ (R : Register) (rest : List ℕ) (v : Valid R) (e : s ≡ written R ++ rest) (again : (Q : Register) (left : List ℕ) → length left < length rest → Valid Q → s ≡ written Q ++ left → Settled s) where
+  module _ (R : Register) (rest : List ℕ) (v : Valid R) (e : s ≡ written R ++ rest)
+      (again : (Q : Register) (left : List ℕ) → length left < length rest → Valid Q → s ≡ written Q ++ left → Settled s) where
     k : ℕ
     k = suc (length (R .statements) + length (R .objections))
 
-    statement : (st : StatementLine) → BeginsWith (Statement st) rest → Settles (0 < length (R .objections)) → Settles (length (R .statements) < 1024) → Settles (OnRegister R (st .number)) → Settled s
+    statement : (st : StatementLine) → BeginsWith (Statement st) rest → Settles (0 < length (R .objections))
+        → Settles (length (R .statements) < 1024) → Settles (OnRegister R (st .number)) → Settled s
     unfolding k
     statement st g (inl late) q i = inr (Late k, reached R rest _ v e (st, g, late))
     statement st g (inr none) (inr q) i = inr (Statements k, reached R rest _ v e (st, g, (omega arith, omega arith)))
     statement st g (inr none) (inl q) (inl i) = inr (Issued k, reached R rest _ v e (st, g, (omega arith, q, i)))
     statement st g (inr none) (inl q) (inr i) =
         let is : R ≡ bare (R .statements) = no-objections R (omega arith) in
-        again (with-statement (R .statements) st) (g .1 .0) (further (Statement st) rest (g .1 .0) (g .1 .1)) (valid-statement (R .statements) st (subst Valid is v) (g .0) q (subst (λ Q. ¬ OnRegister Q (st .number)) is i)) (passed (written (bare (R .statements))) (written (with-statement (R .statements) st)) rest (g .1 .0) (Statement st) (written-statement (R .statements) st) (subst (λ Q. s ≡ written Q ++ rest) is e) (g .1 .1))
+        again (with-statement (R .statements) st) (g .1 .0) (further (Statement st) rest (g .1 .0) (g .1 .1))
+        (valid-statement (R .statements) st (subst Valid is v) (g .0) q (subst (λ Q. ¬ OnRegister Q (st .number)) is i))
+        (passed (written (bare (R .statements))) (written (with-statement (R .statements) st)) rest (g .1 .0) (Statement st)
+        (written-statement (R .statements) st) (subst (λ Q. s ≡ written Q ++ rest) is e) (g .1 .1))
 
-    objection : (o : ObjectionLine) → BeginsWith (Objection o) rest → Settles (length (R .objections) < 4096) → Settles (OnRegister R (o .objector) × OnRegister R (o .target)) → Settles (Has R (o .objector) (o .target)) → Settled s
+    objection : (o : ObjectionLine) → BeginsWith (Objection o) rest → Settles (length (R .objections) < 4096)
+        → Settles (OnRegister R (o .objector) × OnRegister R (o .target)) → Settles (Has R (o .objector) (o .target)) → Settled s
     unfolding k
     objection o g (inr q) i a = inr (Objections k, reached R rest _ v e (o, g, omega arith))
     objection o g (inl q) (inr i) a = inr (Unknown k, reached R rest _ v e (o, g, (q, i)))
     objection o g (inl q) (inl (y, x)) (inl a) = inr (Repeated k, reached R rest _ v e (o, g, (q, y, x, a)))
     objection o g (inl q) (inl (y, x)) (inr a) =
-        again (with-objection R o) (g .1 .0) (further (Objection o) rest (g .1 .0) (g .1 .1)) (valid-objection R o v q y x a) (passed (written R) (written (with-objection R o)) rest (g .1 .0) (Objection o) (written-objection R o) e (g .1 .1))
+        again (with-objection R o) (g .1 .0) (further (Objection o) rest (g .1 .0) (g .1 .1)) (valid-objection R o v q y x a)
+        (passed (written R) (written (with-objection R o)) rest (g .1 .0) (Objection o) (written-objection R o) e (g .1 .1))
 
     next : 0 < length rest → ((l : Line) × BeginsWith l rest) ⊎ ((l : Line) → ¬ BeginsWith l rest) → Settled s
     unfolding k
     next h (inr none) = inr (Spoiled k, reached R rest _ v e (h, none))
-    next h (inl (Statement st, g)) = statement st g (less? 0 (length (R .objections))) (less? (length (R .statements)) 1024) (issued? R (st .number))
-    next h (inl (Objection o, g)) = objection o g (less? (length (R .objections)) 4096) (both? (issued? R (o .objector)) (issued? R (o .target))) (has? R (o .objector) (o .target))
+    next h (inl (Statement st, g)) =
+        statement st g (less? 0 (length (R .objections))) (less? (length (R .statements)) 1024) (issued? R (st .number))
+    next h (inl (Objection o, g)) =
+        objection o g (less? (length (R .objections)) 4096) (both? (issued? R (o .objector)) (issued? R (o .target)))
+        (has? R (o .objector) (o .target))
 
-  step : (R : Register) (rest : List ℕ) → Valid R → s ≡ written R ++ rest → ((Q : Register) (left : List ℕ) → length left < length rest → Valid Q → s ≡ written Q ++ left → Settled s) → Settled s
+  step : (R : Register) (rest : List ℕ) → Valid R → s ≡ written R ++ rest
+      → ((Q : Register) (left : List ℕ) → length left < length rest → Valid Q → s ≡ written Q ++ left → Settled s) → Settled s
   step R [] v e again = inl (R, record { fits = fits; valid = v; is-written = e ∙ nil (written R) })
   step R (b ∷ t) v e again = next R (b ∷ t) v e again (omega arith) (line? (b ∷ t))
 

@@ -39,16 +39,19 @@ no-objections R e = go (R .objections) refl e
 
 -- the last of a list that got one more
 last : (l : List ℕ) (v : ℕ) → getD (l ++ (v ∷ [])) (length l) 0 ≡ v
-last l v = ap (λ k. getD (l ++ (v ∷ [])) k 0) (let e : length l ≡ length l + 0 = omega arith in e) ∙ getD-append-add l (v ∷ []) 0 0
+last l v =
+    ap (λ k. getD (l ++ (v ∷ [])) k 0) (let e : length l ≡ length l + 0 = omega arith in e) ∙ getD-append-add l (v ∷ []) 0 0
 
 longer : (l : List ℕ) (v : ℕ) → length (l ++ (v ∷ [])) ≡ length l + 1
 longer l v = length-append l (v ∷ [])
 
 -- an entry of it is an old one or the last
-old-or-last : (l : List ℕ) (v k : ℕ) → k < length (l ++ (v ∷ [])) → ((k < length l) × (getD (l ++ (v ∷ [])) k 0 ≡ getD l k 0)) ⊎ ((k ≡ length l) × (getD (l ++ (v ∷ [])) k 0 ≡ v))
+old-or-last : (l : List ℕ) (v k : ℕ) → k < length (l ++ (v ∷ [])) → ((k < length l) × (getD (l ++ (v ∷ [])) k 0 ≡ getD l k 0))
+    ⊎ ((k ≡ length l) × (getD (l ++ (v ∷ [])) k 0 ≡ v))
 old-or-last l v k h = go (decLt k (length l))
   where
-    go : Dec (k < length l) → ((k < length l) × (getD (l ++ (v ∷ [])) k 0 ≡ getD l k 0)) ⊎ ((k ≡ length l) × (getD (l ++ (v ∷ [])) k 0 ≡ v))
+    go : Dec (k < length l) → ((k < length l) × (getD (l ++ (v ∷ [])) k 0 ≡ getD l k 0))
+        ⊎ ((k ≡ length l) × (getD (l ++ (v ∷ [])) k 0 ≡ v))
     go (yes p) = inl (p, List·getD-append l (v ∷ []) 0 k p)
     go (no p) = let e : k ≡ length l = omega (arith, longer l v) in inr (e, ap (λ j. getD (l ++ (v ∷ [])) j 0) e ∙ last l v)
 
@@ -60,7 +63,8 @@ take-more room n v h = rw add-one (take-suc-set room n v h)
 bytes-append : (ls ms : List Line) → bytes (ls ++ ms) ≡ bytes ls ++ bytes ms
 unfolding bytes
 bytes-append [] ms = refl
-bytes-append (l ∷ ls) ms = ap (λ u. lineBytes l ++ u) (bytes-append ls ms) ∙ sym (append-assoc (lineBytes l) (bytes ls) (bytes ms))
+bytes-append (l ∷ ls) ms =
+    ap (λ u. lineBytes l ++ u) (bytes-append ls ms) ∙ sym (append-assoc (lineBytes l) (bytes ls) (bytes ms))
 
 one-line : (l : Line) → bytes (l ∷ []) ≡ lineBytes l
 unfolding bytes
@@ -70,10 +74,13 @@ one-line l = append-nil (lineBytes l)
     append-nil [] = refl
     append-nil (x ∷ u) = ap (λ v. x ∷ v) (append-nil u)
 
-pub written-statement : (S : List StatementLine) (st : StatementLine) → written (with-statement S st) ≡ written (bare S) ++ lineBytes (Statement st)
+pub written-statement : (S : List StatementLine) (st : StatementLine)
+    → written (with-statement S st) ≡ written (bare S) ++ lineBytes (Statement st)
 written-statement S st =
-    ap (λ ls. bytes (ls ++ [])) (map-append Statement S (st ∷ [])) ∙ ap bytes (append-assoc (map Statement S) (Statement st ∷ []) [])
-    ∙ bytes-append (map Statement S) (Statement st ∷ []) ∙ ap (λ u. bytes (map Statement S) ++ u) (one-line (Statement st)) ∙ ap (λ u. u ++ lineBytes (Statement st)) bare-bytes
+    ap (λ ls. bytes (ls ++ [])) (map-append Statement S (st ∷ []))
+    ∙ ap bytes (append-assoc (map Statement S) (Statement st ∷ []) [])
+    ∙ bytes-append (map Statement S) (Statement st ∷ []) ∙ ap (λ u. bytes (map Statement S) ++ u) (one-line (Statement st))
+    ∙ ap (λ u. u ++ lineBytes (Statement st)) bare-bytes
   where
     bare-bytes : bytes (map Statement S) ≡ bytes (map Statement S ++ [])
     bare-bytes = ap bytes (sym (nil (map Statement S)))
@@ -94,7 +101,9 @@ unfolding placeOf
 place-holds [] v i l e = absurd (not-suc-le-zero l)
 place-holds (a ∷ ns) v i l e = go (ℕ-discrete a v) i l e (λ j k q. place-holds ns v j k q)
   where
-    go : Dec (a ≡ v) → (i : ℕ) → i < length (a ∷ ns) → getD (a ∷ ns) i 0 ≡ v → ((j : ℕ) → j < length ns → getD ns j 0 ≡ v → getD ns (placeOf ns v) 0 ≡ v) → getD (a ∷ ns) (pick (eqb a v) 0 (suc (placeOf ns v))) 0 ≡ v
+    go : Dec (a ≡ v) → (i : ℕ) → i < length (a ∷ ns) → getD (a ∷ ns) i 0 ≡ v
+        → ((j : ℕ) → j < length ns → getD ns j 0 ≡ v → getD ns (placeOf ns v) 0 ≡ v)
+        → getD (a ∷ ns) (pick (eqb a v) 0 (suc (placeOf ns v))) 0 ≡ v
     go (yes p) i l e f = rw (eq-eqb a v p) p
     go (no p) zero l e f = absurd (p e)
     go (no p) (suc i) l e f = rw (ne-eqb a v p) (f i (le-of-suc-le-suc l) e)
@@ -114,17 +123,22 @@ module _ (R : Register) (n m : ℕ) (nums marks objectors targets : List ℕ) (h
   off-register v f (i, l, e) = let k : i < n = omega (arith, counted) in f i k (sym (number-at i k) ∙ e)
 
   -- the place of a number is where it stands first
-  place-first : (ns : List ℕ) (v y : ℕ) → y < length ns → getD ns y 0 ≡ v → ((i : ℕ) → i < y → getD ns i 0 ≡ v → ⊥) → placeOf ns v ≡ y
+  place-first : (ns : List ℕ) (v y : ℕ) → y < length ns → getD ns y 0 ≡ v → ((i : ℕ) → i < y → getD ns i 0 ≡ v → ⊥)
+      → placeOf ns v ≡ y
   unfolding placeOf
   place-first [] v y l e f = absurd (not-suc-le-zero l)
   place-first (a ∷ ns) v zero l e f = rw (eq-eqb a v e) refl
-  place-first (a ∷ ns) v (suc y) l e f = rw (ne-eqb a v (f 0 (omega arith))) (ap suc (place-first ns v y (le-of-suc-le-suc l) e (λ i k. f (suc i) (omega arith))))
+  place-first (a ∷ ns) v (suc y) l e f =
+      rw (ne-eqb a v (f 0 (omega arith))) (ap suc (place-first ns v y (le-of-suc-le-suc l) e (λ i k. f (suc i) (omega arith))))
 
   pub place-is : (v y : ℕ) → At nums n v y → Absent nums y v → placeOf (numbers R) v ≡ y
-  place-is v y (l, e) f = place-first (numbers R) v y (omega (arith, counted)) (number-at y l ∙ e) (λ i k q. f i k (sym (number-at i (omega arith)) ∙ q))
+  place-is v y (l, e) f =
+      place-first (numbers R) v y (omega (arith, counted)) (number-at y l ∙ e)
+      (λ i k q. f i k (sym (number-at i (omega arith)) ∙ q))
 
   -- the entries of the objections' rooms are the places of their numbers
-  entry-at : (nos room : List ℕ) → take m room ≡ map (placeOf (numbers R)) nos → length nos ≡ m → (j : ℕ) → j < m → getD room j 0 ≡ placeOf (numbers R) (getD nos j 0)
+  entry-at : (nos room : List ℕ) → take m room ≡ map (placeOf (numbers R)) nos → length nos ≡ m → (j : ℕ) → j < m
+      → getD room j 0 ≡ placeOf (numbers R) (getD nos j 0)
   entry-at nos room e c j l = sym (getD-take m room j 0 l) ∙ ap (λ u. getD u j 0) e ∙ mapped nos j (omega arith)
     where
       mapped : (u : List ℕ) (i : ℕ) → i < length u → getD (map (placeOf (numbers R)) u) i 0 ≡ placeOf (numbers R) (getD u i 0)
@@ -146,26 +160,35 @@ module _ (R : Register) (n m : ℕ) (nums marks objectors targets : List ℕ) (h
 
   -- an entry that is the place y is that of the number that stands there
   same-number : (u v y j : ℕ) → Issued R u → At nums n v y → placeOf (numbers R) u ≡ y → u ≡ v
-  same-number u v y j (i, l, e) (k, q) p = sym (place-holds (numbers R) u i l e) ∙ ap (λ a. getD (numbers R) a 0) p ∙ number-at y k ∙ q
+  same-number u v y j (i, l, e) (k, q) p =
+      sym (place-holds (numbers R) u i l e) ∙ ap (λ a. getD (numbers R) a 0) p ∙ number-at y k ∙ q
 
   module _ (valid : Valid R) (o : ObjectionLine) (y x : ℕ) (ends : Ends nums n o y x) where
     -- the objection stands on the register exactly where its places stand in the rooms
     pub stands-already : (j : ℕ) → j < m → getD objectors j 0 ≡ y → getD targets j 0 ≡ x → Has R (o .objector) (o .target)
     stands-already j l a b =
-        let (p, q) = valid .known j (omega (arith, h .objections)) in
-        (j, omega (arith, h .objections), same-number (getD (objectorNumbers R) j 0) (o .objector) y j p (ends .objector) (sym (objector-entry j l) ∙ a), same-number (getD (targetNumbers R) j 0) (o .target) x j q (ends .target) (sym (target-entry j l) ∙ b))
+        let (p, q) = valid .known j (omega (arith, h .objections)) in (
+          j,
+          omega (arith, h .objections),
+          same-number (getD (objectorNumbers R) j 0) (o .objector) y j p (ends .objector)
+              (sym (objector-entry j l) ∙ a),
+          same-number (getD (targetNumbers R) j 0) (o .target) x j q (ends .target)
+              (sym (target-entry j l) ∙ b),
+        )
 
     pub stands-nowhere : ((j : ℕ) → j < m → getD objectors j 0 ≡ y → getD targets j 0 ≡ x → ⊥) → ¬ Has R (o .objector) (o .target)
     stands-nowhere f (k, l, a, b) =
         let i : k < m = omega (arith, h .objections) in
-        f k i (objector-entry k i ∙ ap (placeOf (numbers R)) a ∙ place-is (o .objector) y (ends .objector) (ends .objector-first)) (target-entry k i ∙ ap (placeOf (numbers R)) b ∙ place-is (o .target) x (ends .target) (ends .target-first))
+        f k i (objector-entry k i ∙ ap (placeOf (numbers R)) a ∙ place-is (o .objector) y (ends .objector) (ends .objector-first))
+        (target-entry k i ∙ ap (placeOf (numbers R)) b ∙ place-is (o .target) x (ends .target) (ends .target-first))
 
 -- One statement more, after which nothing is at fault that was not before.
 module _ (S : List StatementLine) (st : StatementLine) where
   names : numbers (with-statement S st) ≡ numbers (bare S) ++ (st .number ∷ [])
   names = map-append (λ (t : StatementLine). t .number) S (st ∷ [])
 
-  pub valid-statement : Valid (bare S) → IsNumber (st .number) → length S < 1024 → ¬ Issued (bare S) (st .number) → Valid (with-statement S st)
+  pub valid-statement : Valid (bare S) → IsNumber (st .number) → length S < 1024 → ¬ Issued (bare S) (st .number)
+      → Valid (with-statement S st)
   valid-statement v w l new = record {
     few-statements = omega (arith, length-append S (st ∷ []));
     few-objections = omega arith;
@@ -181,25 +204,35 @@ module _ (S : List StatementLine) (st : StatementLine) where
       numbered : (i : ℕ) → i < length (ns ++ (st .number ∷ [])) → IsNumber (getD (ns ++ (st .number ∷ [])) i 0)
       numbered i h = go (old-or-last ns (st .number) i h)
         where
-          go : ((i < length ns) × (getD (ns ++ (st .number ∷ [])) i 0 ≡ getD ns i 0)) ⊎ ((i ≡ length ns) × (getD (ns ++ (st .number ∷ [])) i 0 ≡ st .number)) → IsNumber (getD (ns ++ (st .number ∷ [])) i 0)
+          go : ((i < length ns) × (getD (ns ++ (st .number ∷ [])) i 0 ≡ getD ns i 0))
+              ⊎ ((i ≡ length ns) × (getD (ns ++ (st .number ∷ [])) i 0 ≡ st .number))
+              → IsNumber (getD (ns ++ (st .number ∷ [])) i 0)
           go (inl (a, b)) = rw b (v .numbered i a)
           go (inr (a, b)) = rw b w
 
-      once : (i j : ℕ) → i < j → j < length (ns ++ (st .number ∷ [])) → getD (ns ++ (st .number ∷ [])) i 0 ≡ getD (ns ++ (st .number ∷ [])) j 0 → ⊥
+      once : (i j : ℕ) → i < j → j < length (ns ++ (st .number ∷ []))
+          → getD (ns ++ (st .number ∷ [])) i 0 ≡ getD (ns ++ (st .number ∷ [])) j 0 → ⊥
       once i j h k e = go (old-or-last ns (st .number) i (omega arith)) (old-or-last ns (st .number) j k)
         where
-          go : ((i < length ns) × (getD (ns ++ (st .number ∷ [])) i 0 ≡ getD ns i 0)) ⊎ ((i ≡ length ns) × (getD (ns ++ (st .number ∷ [])) i 0 ≡ st .number)) → ((j < length ns) × (getD (ns ++ (st .number ∷ [])) j 0 ≡ getD ns j 0)) ⊎ ((j ≡ length ns) × (getD (ns ++ (st .number ∷ [])) j 0 ≡ st .number)) → ⊥
+          go : ((i < length ns) × (getD (ns ++ (st .number ∷ [])) i 0 ≡ getD ns i 0))
+              ⊎ ((i ≡ length ns) × (getD (ns ++ (st .number ∷ [])) i 0 ≡ st .number))
+              → ((j < length ns) × (getD (ns ++ (st .number ∷ [])) j 0 ≡ getD ns j 0))
+              ⊎ ((j ≡ length ns) × (getD (ns ++ (st .number ∷ [])) j 0 ≡ st .number)) → ⊥
           go (inl (a, b)) (inl (c, d)) = v .once i j h c (sym b ∙ e ∙ d)
           go (inl (a, b)) (inr (c, d)) = new (i, a, sym b ∙ e ∙ d)
           go (inr (a, b)) (inl (c, d)) = omega arith
           go (inr (a, b)) (inr (c, d)) = omega arith
 
-  pub holds-statement : (n : ℕ) (nums marks objectors targets : List ℕ) → n < length nums → n < length marks → Holds (bare S) n 0 nums marks objectors targets → Holds (with-statement S st) (n + 1) 0 (set nums n (st .number)) (set marks n (markNumber (st .mark))) objectors targets
+  pub holds-statement : (n : ℕ) (nums marks objectors targets : List ℕ) → n < length nums → n < length marks
+      → Holds (bare S) n 0 nums marks objectors targets → Holds (with-statement S st) (n + 1) 0 (set nums n (st .number))
+      (set marks n (markNumber (st .mark))) objectors targets
   holds-statement n nums marks objectors targets a b h = record {
     statements = length-append S (st ∷ []) ∙ omega (arith, h .statements);
     objections = refl;
     numbers-are = take-more nums n (st .number) a ∙ ap (λ u. u ++ (st .number ∷ [])) (h .numbers-are) ∙ sym names;
-    marks-are = take-more marks n (markNumber (st .mark)) b ∙ ap (λ u. u ++ (markNumber (st .mark) ∷ [])) (h .marks-are) ∙ sym (map-append (λ (t : StatementLine). markNumber (t .mark)) S (st ∷ []));
+    marks-are =
+        take-more marks n (markNumber (st .mark)) b ∙ ap (λ u. u ++ (markNumber (st .mark) ∷ [])) (h .marks-are)
+        ∙ sym (map-append (λ (t : StatementLine). markNumber (t .mark)) S (st ∷ []));
     objectors-are = h .objectors-are;
     targets-are = h .targets-are;
   }
@@ -220,25 +253,40 @@ module _ (R : Register) (o : ObjectionLine) where
 
   -- the entry k is an old one, or the last
   Old : ℕ → Type 0
-  Old k = (k < length (R .objections)) × (getD (objectorNumbers (with-objection R o)) k 0 ≡ getD (objectorNumbers R) k 0) × (getD (targetNumbers (with-objection R o)) k 0 ≡ getD (targetNumbers R) k 0)
+  Old k =
+      (k < length (R .objections)) × (getD (objectorNumbers (with-objection R o)) k 0 ≡ getD (objectorNumbers R) k 0)
+      × (getD (targetNumbers (with-objection R o)) k 0 ≡ getD (targetNumbers R) k 0)
 
   New : ℕ → Type 0
-  New k = (k ≡ length (R .objections)) × (getD (objectorNumbers (with-objection R o)) k 0 ≡ o .objector) × (getD (targetNumbers (with-objection R o)) k 0 ≡ o .target)
+  New k =
+      (k ≡ length (R .objections)) × (getD (objectorNumbers (with-objection R o)) k 0 ≡ o .objector)
+      × (getD (targetNumbers (with-objection R o)) k 0 ≡ o .target)
 
   old-or-new : (k : ℕ) → k < length (R .objections ++ (o ∷ [])) → Old k ⊎ New k
   unfolding Old New
   old-or-new k h = go (decLt k (length (R .objections)))
     where
-      at-end : (l : List ℕ) (v : ℕ) → length l ≡ length (R .objections) → k ≡ length (R .objections) → getD (l ++ (v ∷ [])) k 0 ≡ v
+      at-end : (l : List ℕ) (v : ℕ) → length l ≡ length (R .objections) → k ≡ length (R .objections)
+          → getD (l ++ (v ∷ [])) k 0 ≡ v
       at-end l v e q = ap (λ j. getD (l ++ (v ∷ [])) j 0) (q ∙ sym e) ∙ last l v
 
       go : Dec (k < length (R .objections)) → Old k ⊎ New k
-      go (yes p) = inl (p, rw ys (List·getD-append (objectorNumbers R) (o .objector ∷ []) 0 k (omega (arith, count-y))), rw xs (List·getD-append (targetNumbers R) (o .target ∷ []) 0 k (omega (arith, count-x))))
+      go (yes p) =
+          inl (
+            p,
+            rw ys (List·getD-append (objectorNumbers R) (o .objector ∷ []) 0 k (omega (arith, count-y))),
+            rw xs (List·getD-append (targetNumbers R) (o .target ∷ []) 0 k (omega (arith, count-x))),
+          )
       go (no p) =
           let e : k ≡ length (R .objections) = omega (arith, length-append (R .objections) (o ∷ [])) in
-          inr (e, rw ys (at-end (objectorNumbers R) (o .objector) count-y e), rw xs (at-end (targetNumbers R) (o .target) count-x e))
+          inr (
+            e,
+            rw ys (at-end (objectorNumbers R) (o .objector) count-y e),
+            rw xs (at-end (targetNumbers R) (o .target) count-x e),
+          )
 
-  pub valid-objection : Valid R → length (R .objections) < 4096 → Issued R (o .objector) → Issued R (o .target) → ¬ Has R (o .objector) (o .target) → Valid (with-objection R o)
+  pub valid-objection : Valid R → length (R .objections) < 4096 → Issued R (o .objector) → Issued R (o .target)
+      → ¬ Has R (o .objector) (o .target) → Valid (with-objection R o)
   unfolding Old New
   valid-objection v l y x new = record {
     few-statements = v .few-statements;
@@ -249,27 +297,35 @@ module _ (R : Register) (o : ObjectionLine) where
     distinct = λ j k h i a b. distinct j k h a b (old-or-new j (omega arith)) (old-or-new k i);
   }
     where
-      known : (k : ℕ) → Old k ⊎ New k → Issued R (getD (objectorNumbers (with-objection R o)) k 0) × Issued R (getD (targetNumbers (with-objection R o)) k 0)
+      known : (k : ℕ) → Old k ⊎ New k → Issued R (getD (objectorNumbers (with-objection R o)) k 0)
+          × Issued R (getD (targetNumbers (with-objection R o)) k 0)
       known k (inl (a, b, c)) = rw (b, c) (v .known k a)
       known k (inr (a, b, c)) = rw (b, c) (y, x)
 
-      distinct : (j k : ℕ) → j < k → getD (objectorNumbers (with-objection R o)) j 0 ≡ getD (objectorNumbers (with-objection R o)) k 0 → getD (targetNumbers (with-objection R o)) j 0 ≡ getD (targetNumbers (with-objection R o)) k 0 → Old j ⊎ New j → Old k ⊎ New k → ⊥
+      distinct : (j k : ℕ) → j < k → getD (objectorNumbers (with-objection R o)) j 0 ≡ getD (objectorNumbers (with-objection R o))
+          k 0 → getD (targetNumbers (with-objection R o)) j 0 ≡ getD (targetNumbers (with-objection R o)) k 0 → Old j ⊎ New j
+          → Old k ⊎ New k → ⊥
       distinct j k h a b (inl (p, q, r)) (inl (p′, q′, r′)) = v .distinct j k h p′ (sym q ∙ a ∙ q′) (sym r ∙ b ∙ r′)
       distinct j k h a b (inl (p, q, r)) (inr (p′, q′, r′)) = new (j, p, sym q ∙ a ∙ q′, sym r ∙ b ∙ r′)
       distinct j k h a b (inr (p, q, r)) (inl (p′, q′, r′)) = omega arith
       distinct j k h a b (inr (p, q, r)) (inr (p′, q′, r′)) = omega arith
 
-  pub holds-objection : (n m y x : ℕ) (nums marks objectors targets : List ℕ) → m < length objectors → m < length targets → (h : Holds R n m nums marks objectors targets) → placeOf (numbers R) (o .objector) ≡ y → placeOf (numbers R) (o .target) ≡ x → Holds (with-objection R o) n (m + 1) nums marks (set objectors m y) (set targets m x)
+  pub holds-objection : (n m y x : ℕ) (nums marks objectors targets : List ℕ) → m < length objectors → m < length targets
+      → (h : Holds R n m nums marks objectors targets) → placeOf (numbers R) (o .objector) ≡ y
+      → placeOf (numbers R) (o .target) ≡ x → Holds (with-objection R o) n (m + 1) nums marks (set objectors m y)
+      (set targets m x)
   holds-objection n m y x nums marks objectors targets a b h p q = record {
     statements = h .statements;
     objections = length-append (R .objections) (o ∷ []) ∙ omega (arith, h .objections);
     numbers-are = h .numbers-are;
     marks-are = h .marks-are;
-    objectors-are = more objectors y (o .objector) (objectorNumbers R) (objectorNumbers (with-objection R o)) a (h .objectors-are) p ys;
+    objectors-are =
+        more objectors y (o .objector) (objectorNumbers R) (objectorNumbers (with-objection R o)) a (h .objectors-are) p ys;
     targets-are = more targets x (o .target) (targetNumbers R) (targetNumbers (with-objection R o)) b (h .targets-are) q xs;
   }
     where
-      more : (room : List ℕ) (e v : ℕ) (nos nos′ : List ℕ) → m < length room → take m room ≡ map (placeOf (numbers R)) nos → placeOf (numbers R) v ≡ e → nos′ ≡ nos ++ (v ∷ []) → take (m + 1) (set room m e) ≡ map (placeOf (numbers R)) nos′
+      more : (room : List ℕ) (e v : ℕ) (nos nos′ : List ℕ) → m < length room → take m room ≡ map (placeOf (numbers R)) nos
+          → placeOf (numbers R) v ≡ e → nos′ ≡ nos ++ (v ∷ []) → take (m + 1) (set room m e) ≡ map (placeOf (numbers R)) nos′
       more room e v nos nos′ l t w u =
           take-more room m e l ∙ ap (λ z. z ++ (e ∷ [])) t ∙ ap (λ z. map (placeOf (numbers R)) nos ++ (z ∷ [])) (sym w)
           ∙ sym (map-append (placeOf (numbers R)) nos (v ∷ [])) ∙ ap (map (placeOf (numbers R))) (sym u)

@@ -42,7 +42,8 @@ abbrev pub GoesFurther : List Line → List ℕ → List Line → List ℕ → T
 GoesFurther ls rest ls′ rest′ = (l : Line) × (more : List Line) × (ls′ ≡ ls ++ (l ∷ more)) × (rest ≡ bytes (l ∷ more) ++ rest′)
 
 -- of two lists of lines that one text begins with, one goes on where the other stops
-pub one-goes-on : (ls ls′ : List Line) (rest rest′ : List ℕ) → Formed ls → Formed ls′ → bytes ls ++ rest ≡ bytes ls′ ++ rest′ → GoesOn ls rest ls′ rest′ ⊎ GoesFurther ls′ rest′ ls rest
+pub one-goes-on : (ls ls′ : List Line) (rest rest′ : List ℕ) → Formed ls → Formed ls′ → bytes ls ++ rest ≡ bytes ls′ ++ rest′
+    → GoesOn ls rest ls′ rest′ ⊎ GoesFurther ls′ rest′ ls rest
 unfolding bytes
 one-goes-on [] ls′ rest rest′ a b e = inl (ls′, refl, e)
 one-goes-on (l ∷ ls) [] rest rest′ a b e = inr (l, ls, refl, sym e)
@@ -50,16 +51,20 @@ one-goes-on (l ∷ ls) (l′ ∷ ls′) rest rest′ (h, a) (k, b) e =
     let (f, g) = line-once l l′ (bytes ls ++ rest) (bytes ls′ ++ rest′) h k (simp append-assoc at e) in
     go f (one-goes-on ls ls′ rest rest′ a b g)
   where
-    go : l ≡ l′ → GoesOn ls rest ls′ rest′ ⊎ GoesFurther ls′ rest′ ls rest → GoesOn (l ∷ ls) rest (l′ ∷ ls′) rest′ ⊎ GoesFurther (l′ ∷ ls′) rest′ (l ∷ ls) rest
+    go : l ≡ l′ → GoesOn ls rest ls′ rest′ ⊎ GoesFurther ls′ rest′ ls rest → GoesOn (l ∷ ls) rest (l′ ∷ ls′) rest′
+        ⊎ GoesFurther (l′ ∷ ls′) rest′ (l ∷ ls) rest
     go f (inl (more, p, q)) = inl (more, cc, q)
     go f (inr (m, more, p, q)) = inr (m, more, cc, q)
 
 -- the lines of a register within the limits are well formed
-statements-formed : (sts : List StatementLine) → ((i : ℕ) → i < length (map (λ (st : StatementLine). st .number) sts) → IsNumber (getD (map (λ (st : StatementLine). st .number) sts) i 0)) → Formed (map Statement sts)
+statements-formed : (sts : List StatementLine) → ((i : ℕ) → i < length (map (λ (st : StatementLine). st .number) sts)
+    → IsNumber (getD (map (λ (st : StatementLine). st .number) sts) i 0)) → Formed (map Statement sts)
 statements-formed [] f = tt
 statements-formed (st ∷ sts) f = (f 0 (omega arith), statements-formed sts (λ i h. f (suc i) (omega arith)))
 
-objections-formed : (os : List ObjectionLine) → ((k : ℕ) → k < length os → IsNumber (getD (map (λ (o : ObjectionLine). o .objector) os) k 0) × IsNumber (getD (map (λ (o : ObjectionLine). o .target) os) k 0)) → Formed (map Objection os)
+objections-formed : (os : List ObjectionLine) → ((k : ℕ) → k < length os
+    → IsNumber (getD (map (λ (o : ObjectionLine). o .objector) os) k 0)
+    × IsNumber (getD (map (λ (o : ObjectionLine). o .target) os) k 0)) → Formed (map Objection os)
 objections-formed [] f = tt
 objections-formed (o ∷ os) f = (f 0 (omega arith), objections-formed os (λ k h. f (suc k) (omega arith)))
 
@@ -68,10 +73,14 @@ issued-number R v n (i, h, e) = rw e at (v .numbered i h)
 
 pub lines-formed : (R : Register) → Valid R → Formed (lines R)
 lines-formed R v =
-    formed-append (map Statement (R .statements)) (map Objection (R .objections)) (statements-formed (R .statements) (v .numbered)) (objections-formed (R .objections) known)
+    formed-append (map Statement (R .statements)) (map Objection (R .objections))
+    (statements-formed (R .statements) (v .numbered)) (objections-formed (R .objections) known)
   where
     known : (k : ℕ) → k < length (R .objections) → IsNumber (getD (objectorNumbers R) k 0) × IsNumber (getD (targetNumbers R) k 0)
-    known k h = (issued-number R v (getD (objectorNumbers R) k 0) (v .known k h .0), issued-number R v (getD (targetNumbers R) k 0) (v .known k h .1))
+    known k h = (
+      issued-number R v (getD (objectorNumbers R) k 0) (v .known k h .0),
+      issued-number R v (getD (targetNumbers R) k 0) (v .known k h .1),
+    )
 
 -- the statements and the objections among lines
 statementsIn : List Line → List StatementLine
@@ -84,28 +93,34 @@ objectionsIn [] = []
 objectionsIn (Statement st ∷ ls) = objectionsIn ls
 objectionsIn (Objection o ∷ ls) = o ∷ objectionsIn ls
 
-statements-of : (sts : List StatementLine) (os : List ObjectionLine) (ls : List Line) → statementsIn (map Statement sts ++ map Objection os ++ ls) ≡ sts ++ statementsIn ls
+statements-of : (sts : List StatementLine) (os : List ObjectionLine) (ls : List Line)
+    → statementsIn (map Statement sts ++ map Objection os ++ ls) ≡ sts ++ statementsIn ls
 unfolding statementsIn
 statements-of [] [] ls = refl
 statements-of [] (o ∷ os) ls = statements-of [] os ls
 statements-of (st ∷ sts) os ls = ap (λ ms. st ∷ ms) (statements-of sts os ls)
 
-objections-of : (sts : List StatementLine) (os : List ObjectionLine) (ls : List Line) → objectionsIn (map Statement sts ++ map Objection os ++ ls) ≡ os ++ objectionsIn ls
+objections-of : (sts : List StatementLine) (os : List ObjectionLine) (ls : List Line)
+    → objectionsIn (map Statement sts ++ map Objection os ++ ls) ≡ os ++ objectionsIn ls
 unfolding objectionsIn
 objections-of [] [] ls = refl
 objections-of [] (o ∷ os) ls = ap (λ ms. o ∷ ms) (objections-of [] os ls)
 objections-of (st ∷ sts) os ls = objections-of sts os ls
 
 -- a register that goes on has the statements and objections of its further lines behind its own
-statements-more : (R R′ : Register) (more : List Line) → lines R′ ≡ lines R ++ more → R′ .statements ≡ R .statements ++ statementsIn more
+statements-more : (R R′ : Register) (more : List Line) → lines R′ ≡ lines R ++ more
+    → R′ .statements ≡ R .statements ++ statementsIn more
 unfolding statementsIn
 statements-more R R′ more e =
-    sym (ap statementsIn (sym (append-nil (lines R′))) ∙ statements-of (R′ .statements) (R′ .objections) [] ∙ append-nil (R′ .statements)) ∙ ap statementsIn e ∙ statements-of (R .statements) (R .objections) more
+    sym (ap statementsIn (sym (append-nil (lines R′))) ∙ statements-of (R′ .statements) (R′ .objections) []
+    ∙ append-nil (R′ .statements)) ∙ ap statementsIn e ∙ statements-of (R .statements) (R .objections) more
 
-objections-more : (R R′ : Register) (more : List Line) → lines R′ ≡ lines R ++ more → R′ .objections ≡ R .objections ++ objectionsIn more
+objections-more : (R R′ : Register) (more : List Line) → lines R′ ≡ lines R ++ more
+    → R′ .objections ≡ R .objections ++ objectionsIn more
 unfolding objectionsIn
 objections-more R R′ more e =
-    sym (ap objectionsIn (sym (append-nil (lines R′))) ∙ objections-of (R′ .statements) (R′ .objections) [] ∙ append-nil (R′ .objections)) ∙ ap objectionsIn e ∙ objections-of (R .statements) (R .objections) more
+    sym (ap objectionsIn (sym (append-nil (lines R′))) ∙ objections-of (R′ .statements) (R′ .objections) []
+    ∙ append-nil (R′ .objections)) ∙ ap objectionsIn e ∙ objections-of (R .statements) (R .objections) more
 
 pub lines-injective : (R R′ : Register) → lines R ≡ lines R′ → R ≡ R′
 unfolding statementsIn objectionsIn
@@ -116,7 +131,8 @@ lines-injective R R′ e =
     λ i. record { statements = s i; objections = o i }
 
 -- at the first objection line the statements are over
-until-objection : (sts sts′ : List StatementLine) (os′ : List ObjectionLine) (o : ObjectionLine) (more : List Line) → map Statement sts′ ++ map Objection os′ ≡ map Statement sts ++ (Objection o ∷ more) → sts′ ≡ sts
+until-objection : (sts sts′ : List StatementLine) (os′ : List ObjectionLine) (o : ObjectionLine) (more : List Line)
+    → map Statement sts′ ++ map Objection os′ ≡ map Statement sts ++ (Objection o ∷ more) → sts′ ≡ sts
 until-objection [] [] os′ o more e = refl
 until-objection [] (st′ ∷ sts′) os′ o more e = let z : _≡_ {A = ℕ} 0 1 = cc in absurd (omega arith)
 until-objection (st ∷ sts) [] [] o more e = let z : _≡_ {A = ℕ} 0 1 = cc in absurd (omega arith)
@@ -126,13 +142,17 @@ until-objection (st ∷ sts) (st′ ∷ sts′) os′ o more e =
     cc
 
 -- so after objections, or before one, a register that goes on has no more statements
-none-late : (sts sts′ : List StatementLine) (os os′ : List ObjectionLine) (l : Line) (more : List Line) → 0 < length os → map Statement sts′ ++ map Objection os′ ≡ map Statement sts ++ map Objection os ++ (l ∷ more) → sts′ ≡ sts
+none-late : (sts sts′ : List StatementLine) (os os′ : List ObjectionLine) (l : Line) (more : List Line) → 0 < length os
+    → map Statement sts′ ++ map Objection os′ ≡ map Statement sts ++ map Objection os ++ (l ∷ more) → sts′ ≡ sts
 none-late sts sts′ [] os′ l more h e = absurd (omega arith)
-none-late sts sts′ (o ∷ os) os′ l more h e = until-objection sts sts′ os′ o (map Objection os ++ (l ∷ more)) (simp append-assoc at e)
+none-late sts sts′ (o ∷ os) os′ l more h e =
+    until-objection sts sts′ os′ o (map Objection os ++ (l ∷ more)) (simp append-assoc at e)
 
-statements-over : (sts sts′ : List StatementLine) (os os′ : List ObjectionLine) (o : ObjectionLine) (more : List Line) → map Statement sts′ ++ map Objection os′ ≡ map Statement sts ++ map Objection os ++ (Objection o ∷ more) → sts′ ≡ sts
+statements-over : (sts sts′ : List StatementLine) (os os′ : List ObjectionLine) (o : ObjectionLine) (more : List Line)
+    → map Statement sts′ ++ map Objection os′ ≡ map Statement sts ++ map Objection os ++ (Objection o ∷ more) → sts′ ≡ sts
 statements-over sts sts′ [] os′ o more e = until-objection sts sts′ os′ o more (simp append-assoc at e)
-statements-over sts sts′ (p ∷ os) os′ o more e = until-objection sts sts′ os′ p (map Objection os ++ (Objection o ∷ more)) (simp append-assoc at e)
+statements-over sts sts′ (p ∷ os) os′ o more e =
+    until-objection sts sts′ os′ p (map Objection os ++ (Objection o ∷ more)) (simp append-assoc at e)
 
 map-append : {A B : Type 0} (f : A → B) (s t : List A) → map f (s ++ t) ≡ map f s ++ map f t
 map-append f [] t = refl
@@ -144,10 +164,14 @@ module _ {A : Type 0} (s s′ t : List A) (a : A) (e : s′ ≡ s ++ (a ∷ t)) 
   longer = omega (arith, ap length e, length-append s (a ∷ t))
 
   own-kept : (f : A → ℕ) (i : ℕ) → i < length s → getD (map f s′) i 0 ≡ getD (map f s) i 0
-  own-kept f i h = ap (λ ns. getD ns i 0) (ap (map f) e ∙ map-append f s (a ∷ t)) ∙ List·getD-append (map f s) (f a ∷ map f t) 0 i (omega (arith, length-map s f))
+  own-kept f i h =
+      ap (λ ns. getD ns i 0) (ap (map f) e ∙ map-append f s (a ∷ t))
+      ∙ List·getD-append (map f s) (f a ∷ map f t) 0 i (omega (arith, length-map s f))
 
   next-behind : (f : A → ℕ) → getD (map f s′) (length s) 0 ≡ f a
-  next-behind f = ap (λ ns. getD ns (length s) 0) (ap (map f) e ∙ map-append f s (a ∷ t)) ∙ getD-at (map f s) (f a) (map f t) 0 (length s) (length-map s f)
+  next-behind f =
+      ap (λ ns. getD ns (length s) 0) (ap (map f) e ∙ map-append f s (a ∷ t))
+      ∙ getD-at (map f s) (f a) (map f t) 0 (length s) (length-map s f)
 
 -- who is on a register, the statements alone say
 same-issued : (R R′ : Register) (n m : ℕ) → R′ .statements ≡ R .statements → m ≡ n → OnRegister R′ m → OnRegister R n
@@ -158,11 +182,15 @@ same-issued R R′ n m e f (i, h, g) =
 -- The rows that ask what the next line is, each with the refusal that it gives at line k.
 data Row (R : Register) (k : ℕ) : Line → Refusal → Type 0 where
   late : {st : StatementLine} → 0 < length (R .objections) → Row R k (Statement st) (Late k)
-  many-statements : {st : StatementLine} → length (R .objections) ≡ 0 → 1024 ≤ length (R .statements) → Row R k (Statement st) (Statements k)
-  issued : {st : StatementLine} → length (R .objections) ≡ 0 → length (R .statements) < 1024 → OnRegister R (st .number) → Row R k (Statement st) (Issued k)
+  many-statements : {st : StatementLine} → length (R .objections) ≡ 0 → 1024 ≤ length (R .statements)
+      → Row R k (Statement st) (Statements k)
+  issued : {st : StatementLine} → length (R .objections) ≡ 0 → length (R .statements) < 1024 → OnRegister R (st .number)
+      → Row R k (Statement st) (Issued k)
   many-objections : {o : ObjectionLine} → 4096 ≤ length (R .objections) → Row R k (Objection o) (Objections k)
-  unknown : {o : ObjectionLine} → length (R .objections) < 4096 → ¬ (OnRegister R (o .objector) × OnRegister R (o .target)) → Row R k (Objection o) (Unknown k)
-  repeated : {o : ObjectionLine} → length (R .objections) < 4096 → OnRegister R (o .objector) → OnRegister R (o .target) → Has R (o .objector) (o .target) → Row R k (Objection o) (Repeated k)
+  unknown : {o : ObjectionLine} → length (R .objections) < 4096 → ¬ (OnRegister R (o .objector) × OnRegister R (o .target))
+      → Row R k (Objection o) (Unknown k)
+  repeated : {o : ObjectionLine} → length (R .objections) < 4096 → OnRegister R (o .objector) → OnRegister R (o .target)
+      → Has R (o .objector) (o .target) → Row R k (Objection o) (Repeated k)
 
 -- one row applies at most
 row-once : {R : Register} {k : ℕ} {l : Line} {r r′ : Refusal} → Row R k l r → Row R k l r′ → r ≡ r′
@@ -195,7 +223,13 @@ module _ (R R′ : Register) (st : StatementLine) (more : List Line) (e : lines 
   more-statements = longer (R .statements) (R′ .statements) (statementsIn more) st further-statement
 
   not-late : 0 < length (R .objections) → ⊥
-  not-late h = omega (arith, more-statements, ap length (none-late (R .statements) (R′ .statements) (R .objections) (R′ .objections) (Statement st) more h e))
+  not-late h =
+      omega (
+        arith,
+        more-statements,
+        ap length (none-late (R .statements) (R′ .statements) (R .objections) (R′ .objections)
+            (Statement st) more h e),
+      )
 
   not-issued : Valid R′ → OnRegister R (st .number) → ⊥
   not-issued v (i, h, g) =
@@ -203,7 +237,8 @@ module _ (R R′ : Register) (st : StatementLine) (more : List Line) (e : lines 
       let own : i < length (R .statements) = omega (arith, length-map (R .statements) number) in
       let kept = own-kept (R .statements) (R′ .statements) (statementsIn more) st further-statement number i own in
       let next = next-behind (R .statements) (R′ .statements) (statementsIn more) st further-statement number in
-      v .once i (length (R .statements)) own (omega (arith, more-statements, length-map (R′ .statements) number)) (kept ∙ g ∙ sym next)
+      v .once i (length (R .statements)) own (omega (arith, more-statements, length-map (R′ .statements) number))
+      (kept ∙ g ∙ sym next)
 
 -- Where it goes on with an objection, none for objection lines does.
 module _ (R R′ : Register) (o : ObjectionLine) (more : List Line) (e : lines R′ ≡ lines R ++ (Objection o ∷ more)) where
@@ -214,7 +249,8 @@ module _ (R R′ : Register) (o : ObjectionLine) (more : List Line) (e : lines R
   more-objections : length (R .objections) < length (R′ .objections)
   more-objections = longer (R .objections) (R′ .objections) (objectionsIn more) o further-objection
 
-  kept : (f : ObjectionLine → ℕ) (j : ℕ) → j < length (R .objections) → getD (map f (R′ .objections)) j 0 ≡ getD (map f (R .objections)) j 0
+  kept : (f : ObjectionLine → ℕ) (j : ℕ) → j < length (R .objections)
+      → getD (map f (R′ .objections)) j 0 ≡ getD (map f (R .objections)) j 0
   kept = own-kept (R .objections) (R′ .objections) (objectionsIn more) o further-objection
 
   next : (f : ObjectionLine → ℕ) → getD (map f (R′ .objections)) (length (R .objections)) 0 ≡ f o
@@ -223,14 +259,18 @@ module _ (R R′ : Register) (o : ObjectionLine) (more : List Line) (e : lines R
   both-known : Valid R′ → OnRegister R (o .objector) × OnRegister R (o .target)
   both-known v =
       let same = statements-over (R .statements) (R′ .statements) (R .objections) (R′ .objections) o more e in
-      let (i, j) = v .known (length (R .objections)) more-objections in
-      (same-issued R R′ (o .objector) _ same (next (λ p. p .objector)) i, same-issued R R′ (o .target) _ same (next (λ p. p .target)) j)
+      let (i, j) = v .known (length (R .objections)) more-objections in (
+        same-issued R R′ (o .objector) _ same (next (λ p. p .objector)) i,
+        same-issued R R′ (o .target) _ same (next (λ p. p .target)) j,
+      )
 
   not-repeated : Valid R′ → Has R (o .objector) (o .target) → ⊥
   not-repeated v (j, h, a, b) =
-      v .distinct j (length (R .objections)) h more-objections (kept (λ p. p .objector) j h ∙ a ∙ sym (next (λ p. p .objector))) (kept (λ p. p .target) j h ∙ b ∙ sym (next (λ p. p .target)))
+      v .distinct j (length (R .objections)) h more-objections (kept (λ p. p .objector) j h ∙ a ∙ sym (next (λ p. p .objector)))
+      (kept (λ p. p .target) j h ∙ b ∙ sym (next (λ p. p .target)))
 
-no-row : (R R′ : Register) (l : Line) (more : List Line) (k : ℕ) (r : Refusal) → Valid R′ → lines R′ ≡ lines R ++ (l ∷ more) → Row R k l r → ⊥
+no-row : (R R′ : Register) (l : Line) (more : List Line) (k : ℕ) (r : Refusal) → Valid R′ → lines R′ ≡ lines R ++ (l ∷ more)
+    → Row R k l r → ⊥
 no-row R R′ (Statement st) more k r v e (late h) = not-late R R′ st more e h
 no-row R R′ (Statement st) more k r v e (many-statements z h) = omega (arith, v .few-statements, more-statements R R′ st more e)
 no-row R R′ (Statement st) more k r v e (issued z h i) = not-issued R R′ st more e v i
@@ -247,24 +287,31 @@ stop-once : {R : Register} {rest : List ℕ} {k : ℕ} {r r′ : Refusal} → St
 stop-once (no-line h f) (no-line i g) = refl
 stop-once (no-line h f) (by-row l b a) = absurd (f l b)
 stop-once (by-row l b a) (no-line h f) = absurd (f l b)
-stop-once {R} {k = k} {r′ = r′} (by-row l (h, (t, e)) a) (by-row l′ (h′, (t′, e′)) a′) = row-once a (subst (λ m. Row R k m r′) (line-once l′ l t′ t h′ h (sym e′ ∙ e) .0) a′)
+stop-once {R} {k = k} {r′ = r′} (by-row l (h, (t, e)) a) (by-row l′ (h′, (t′, e′)) a′) =
+    row-once a (subst (λ m. Row R k m r′) (line-once l′ l t′ t h′ h (sym e′ ∙ e) .0) a′)
 
 -- reading does not stop where the text goes on with a line of a register within the limits
-no-stop : (R R′ : Register) (rest t : List ℕ) (l : Line) (more : List Line) (k : ℕ) (r : Refusal) → Valid R′ → lines R′ ≡ lines R ++ (l ∷ more) → rest ≡ bytes (l ∷ more) ++ t → Stop R rest k r → ⊥
+no-stop : (R R′ : Register) (rest t : List ℕ) (l : Line) (more : List Line) (k : ℕ) (r : Refusal) → Valid R′
+    → lines R′ ≡ lines R ++ (l ∷ more) → rest ≡ bytes (l ∷ more) ++ t → Stop R rest k r → ⊥
 unfolding bytes
 no-stop R R′ rest t l more k r v e f s = go s
   where
     next : BeginsWith l rest
-    next = (formed-next (lines R) l more (subst Formed e (lines-formed R′ v)), (bytes more ++ t, f ∙ append-assoc (lineBytes l) (bytes more) t))
+    next = (
+      formed-next (lines R) l more (subst Formed e (lines-formed R′ v)),
+      (bytes more ++ t, f ∙ append-assoc (lineBytes l) (bytes more) t),
+    )
 
     go : {b : Refusal} → Stop R rest k b → ⊥
     go (no-line h g) = g l next
-    go {b} (by-row m (h, (u, d)) a) = no-row R R′ l more k b v e (subst (λ n. Row R k n b) (line-once m l u (next .1 .0) h (next .0) (sym d ∙ next .1 .1) .0) a)
+    go {b} (by-row m (h, (u, d)) a) =
+        no-row R R′ l more k b v e (subst (λ n. Row R k n b) (line-once m l u (next .1 .0) h (next .0) (sym d ∙ next .1 .1) .0) a)
 
 -- at the end of the text no line stands, and reading does not stop
 not-at-end : (l : Line) (more : List Line) (t : List ℕ) → [] ≡ bytes (l ∷ more) ++ t → ⊥
 unfolding bytes
-not-at-end l more t e = omega (arith, ap length (e ∙ append-assoc (lineBytes l) (bytes more) t), line-not-empty l (bytes more ++ t))
+not-at-end l more t e =
+    omega (arith, ap length (e ∙ append-assoc (lineBytes l) (bytes more) t), line-not-empty l (bytes more ++ t))
 
 stop-inside : {R : Register} {rest : List ℕ} {k : ℕ} {r : Refusal} → Stop R rest k r → 0 < length rest
 stop-inside (no-line h f) = h
@@ -276,19 +323,33 @@ data Cause (s : List ℕ) : Refusal → Type 0 where
   unended : length s ≤ 65535 → NotEnded s → Cause s Unended
   stopped : {r : Refusal} (k : ℕ) → Reached s k (λ R rest. Stop R rest k r) → Cause s r
 
-reached-as : {s : List ℕ} {k : ℕ} {F G : Register → List ℕ → Type 0} → ((R : Register) (rest : List ℕ) → F R rest → G R rest) → Reached s k F → Reached s k G
-reached-as f p = record { fits = p .fits; ended = p .ended; before = p .before; rest = p .rest; valid = p .valid; is-written = p .is-written; line = p .line; fault = f (p .before) (p .rest) (p .fault) }
+reached-as : {s : List ℕ} {k : ℕ} {F G : Register → List ℕ → Type 0} → ((R : Register) (rest : List ℕ) → F R rest → G R rest)
+    → Reached s k F → Reached s k G
+reached-as f p =
+    record {
+      fits = p .fits;
+      ended = p .ended;
+      before = p .before;
+      rest = p .rest;
+      valid = p .valid;
+      is-written = p .is-written;
+      line = p .line;
+      fault = f (p .before) (p .rest) (p .fault);
+    }
 
 cause : (s : List ℕ) (r : Refusal) → Refuses s r → Cause s r
 cause s TooLong h = too-long h
 cause s Unended (h, n) = unended h n
 cause s (Spoiled k) p = stopped k (reached-as (λ R rest a. no-line (a .0) (a .1)) p)
 cause s (Late k) p = stopped k (reached-as (λ R rest a. by-row (Statement (a .0)) (a .1) (late (a .2))) p)
-cause s (Statements k) p = stopped k (reached-as (λ R rest a. by-row (Statement (a .0)) (a .1) (many-statements (a .2 .0) (a .2 .1))) p)
-cause s (Issued k) p = stopped k (reached-as (λ R rest a. by-row (Statement (a .0)) (a .1) (issued (a .2 .0) (a .2 .1) (a .2 .2))) p)
+cause s (Statements k) p =
+    stopped k (reached-as (λ R rest a. by-row (Statement (a .0)) (a .1) (many-statements (a .2 .0) (a .2 .1))) p)
+cause s (Issued k) p =
+    stopped k (reached-as (λ R rest a. by-row (Statement (a .0)) (a .1) (issued (a .2 .0) (a .2 .1) (a .2 .2))) p)
 cause s (Objections k) p = stopped k (reached-as (λ R rest a. by-row (Objection (a .0)) (a .1) (many-objections (a .2))) p)
 cause s (Unknown k) p = stopped k (reached-as (λ R rest a. by-row (Objection (a .0)) (a .1) (unknown (a .2 .0) (a .2 .1))) p)
-cause s (Repeated k) p = stopped k (reached-as (λ R rest a. by-row (Objection (a .0)) (a .1) (repeated (a .2 .0) (a .2 .1) (a .2 .2) (a .2 .3))) p)
+cause s (Repeated k) p =
+    stopped k (reached-as (λ R rest a. by-row (Objection (a .0)) (a .1) (repeated (a .2 .0) (a .2 .1) (a .2 .2) (a .2 .3))) p)
 cause s Room p = absurd p
 cause s Unequal p = absurd p
 cause s (Mark k) p = absurd p
@@ -297,12 +358,15 @@ cause s Asked p = absurd p
 cause s Turns p = absurd p
 
 -- the reading stops at one line, for one reason
-stopped-once : (s : List ℕ) (k k′ : ℕ) (r r′ : Refusal) → Reached s k (λ R rest. Stop R rest k r) → Reached s k′ (λ R rest. Stop R rest k′ r′) → r ≡ r′
+stopped-once : (s : List ℕ) (k k′ : ℕ) (r r′ : Refusal) → Reached s k (λ R rest. Stop R rest k r)
+    → Reached s k′ (λ R rest. Stop R rest k′ r′) → r ≡ r′
 unfolding bytes
 stopped-once s k k′ r r′ p q =
-    go (one-goes-on (lines (p .before)) (lines (q .before)) (p .rest) (q .rest) (lines-formed (p .before) (p .valid)) (lines-formed (q .before) (q .valid)) (sym (p .is-written) ∙ q .is-written))
+    go (one-goes-on (lines (p .before)) (lines (q .before)) (p .rest) (q .rest) (lines-formed (p .before) (p .valid))
+    (lines-formed (q .before) (q .valid)) (sym (p .is-written) ∙ q .is-written))
   where
-    go : GoesOn (lines (p .before)) (p .rest) (lines (q .before)) (q .rest) ⊎ GoesFurther (lines (q .before)) (q .rest) (lines (p .before)) (p .rest) → r ≡ r′
+    go : GoesOn (lines (p .before)) (p .rest) (lines (q .before)) (q .rest)
+        ⊎ GoesFurther (lines (q .before)) (q .rest) (lines (p .before)) (p .rest) → r ≡ r′
     go (inl ([], e, f)) =
         let same : q .before ≡ p .before = lines-injective (q .before) (p .before) (e ∙ append-nil (lines (p .before))) in
         let line : k′ ≡ k = q .line ∙ ap (λ R. suc (length (R .statements) + length (R .objections))) same ∙ sym (p .line) in
@@ -314,14 +378,20 @@ stopped-once s k k′ r r′ p q =
 bytes-ended : (l : Line) (ls : List Line) → (b : List ℕ) × (bytes (l ∷ ls) ≡ b ++ (10 ∷ []))
 unfolding bytes
 bytes-ended l [] = let (b, e) = line-ended l in (b, append-nil (lineBytes l) ∙ e)
-bytes-ended l (m ∷ ls) = let (b, e) = bytes-ended m ls in (lineBytes l ++ b, ap (λ bs. lineBytes l ++ bs) e ∙ sym (append-assoc (lineBytes l) b (10 ∷ [])))
+bytes-ended l (m ∷ ls) =
+    let (b, e) = bytes-ended m ls in (
+      lineBytes l ++ b,
+      ap (λ bs. lineBytes l ++ bs) e
+          ∙ sym (append-assoc (lineBytes l) b (10 ∷ [])),
+    )
 
 lines-ended : (ls : List Line) → NotEnded (bytes ls) → ⊥
 unfolding bytes
 lines-ended [] (h, n) = omega arith
 lines-ended (l ∷ ls) (h, n) =
     let (b, e) = bytes-ended l ls in
-    n (ap (λ bs. getD bs (length bs - 1) 0) e ∙ getD-at b 10 [] 0 (length (b ++ (10 ∷ [])) - 1) (omega (arith, length-append b (10 ∷ []))))
+    n (ap (λ bs. getD bs (length bs - 1) 0) e ∙ getD-at b 10 [] 0 (length (b ++ (10 ∷ [])) - 1)
+    (omega (arith, length-append b (10 ∷ []))))
 
 pub written-ended : (R : Register) → Valid R → NotEnded (written R) → ⊥
 written-ended R v n = lines-ended (lines R) n
@@ -329,7 +399,8 @@ written-ended R v n = lines-ended (lines R) n
 pub accepts-once : (s : List ℕ) (R R′ : Register) → Accepts s R → Accepts s R′ → R ≡ R′
 unfolding bytes
 accepts-once s R R′ a b =
-    go (one-goes-on (lines R) (lines R′) [] [] (lines-formed R (a .valid)) (lines-formed R′ (b .valid)) (append-nil (written R) ∙ sym (a .is-written) ∙ b .is-written ∙ sym (append-nil (written R′))))
+    go (one-goes-on (lines R) (lines R′) [] [] (lines-formed R (a .valid)) (lines-formed R′ (b .valid))
+    (append-nil (written R) ∙ sym (a .is-written) ∙ b .is-written ∙ sym (append-nil (written R′))))
   where
     go : GoesOn (lines R) [] (lines R′) [] ⊎ GoesFurther (lines R′) [] (lines R) [] → R ≡ R′
     go (inl ([], e, f)) = lines-injective R R′ (sym (e ∙ append-nil (lines R)))
@@ -340,7 +411,8 @@ pub not-both : (s : List ℕ) (R : Register) (r : Refusal) → Accepts s R → R
 unfolding bytes
 not-both s R r a p = by (cause s r p)
   where
-    at-end : (b : Refusal) (k : ℕ) (q : Reached s k (λ B rest. Stop B rest k b)) → GoesOn (lines (q .before)) (q .rest) (lines R) [] ⊎ GoesFurther (lines R) [] (lines (q .before)) (q .rest) → ⊥
+    at-end : (b : Refusal) (k : ℕ) (q : Reached s k (λ B rest. Stop B rest k b))
+        → GoesOn (lines (q .before)) (q .rest) (lines R) [] ⊎ GoesFurther (lines R) [] (lines (q .before)) (q .rest) → ⊥
     at-end b k q (inl ([], e, f)) = omega (arith, ap length f, stop-inside (q .fault))
     at-end b k q (inl (l ∷ more, e, f)) = no-stop (q .before) R (q .rest) [] l more k b (a .valid) e f (q .fault)
     at-end b k q (inr (l, more, e, f)) = not-at-end l more (q .rest) f
@@ -348,7 +420,9 @@ not-both s R r a p = by (cause s r p)
     by : {b : Refusal} → Cause s b → ⊥
     by (too-long h) = omega (arith, a .fits)
     by (unended h n) = written-ended R (a .valid) (subst NotEnded (a .is-written) n)
-    by {b} (stopped k q) = at-end b k q (one-goes-on (lines (q .before)) (lines R) (q .rest) [] (lines-formed (q .before) (q .valid)) (lines-formed R (a .valid)) (sym (q .is-written) ∙ a .is-written ∙ sym (append-nil (written R))))
+    by {b} (stopped k q) =
+        at-end b k q (one-goes-on (lines (q .before)) (lines R) (q .rest) [] (lines-formed (q .before) (q .valid))
+        (lines-formed R (a .valid)) (sym (q .is-written) ∙ a .is-written ∙ sym (append-nil (written R))))
 
 pub refuses-once : (s : List ℕ) (r r′ : Refusal) → Refuses s r → Refuses s r′ → r ≡ r′
 refuses-once s r r′ p q = go (cause s r p) (cause s r′ q)

@@ -48,11 +48,18 @@ Refuses s TooLong = 65535 < length s
 Refuses s Unended = (length s ≤ 65535) × NotEnded s
 Refuses s (Spoiled k) = Reached s k (λ R rest. (0 < length rest) × ((l : Line) → ¬ BeginsWith l rest))
 Refuses s (Late k) = Reached s k (λ R rest. NextStatement rest (λ st. 0 < length (R .objections)))
-Refuses s (Statements k) = Reached s k (λ R rest. NextStatement rest (λ st. (length (R .objections) ≡ 0) × (1024 ≤ length (R .statements))))
-Refuses s (Issued k) = Reached s k (λ R rest. NextStatement rest (λ st. (length (R .objections) ≡ 0) × (length (R .statements) < 1024) × OnRegister R (st .number)))
+Refuses s (Statements k) =
+    Reached s k (λ R rest. NextStatement rest (λ st. (length (R .objections) ≡ 0) × (1024 ≤ length (R .statements))))
+Refuses s (Issued k) =
+    Reached s k (λ R rest. NextStatement rest
+    (λ st. (length (R .objections) ≡ 0) × (length (R .statements) < 1024) × OnRegister R (st .number)))
 Refuses s (Objections k) = Reached s k (λ R rest. NextObjection rest (λ o. 4096 ≤ length (R .objections)))
-Refuses s (Unknown k) = Reached s k (λ R rest. NextObjection rest (λ o. (length (R .objections) < 4096) × ¬ (OnRegister R (o .objector) × OnRegister R (o .target))))
-Refuses s (Repeated k) = Reached s k (λ R rest. NextObjection rest (λ o. (length (R .objections) < 4096) × OnRegister R (o .objector) × OnRegister R (o .target) × Has R (o .objector) (o .target)))
+Refuses s (Unknown k) =
+    Reached s k (λ R rest. NextObjection rest
+    (λ o. (length (R .objections) < 4096) × ¬ (OnRegister R (o .objector) × OnRegister R (o .target))))
+Refuses s (Repeated k) =
+    Reached s k (λ R rest. NextObjection rest
+    (λ o. (length (R .objections) < 4096) × OnRegister R (o .objector) × OnRegister R (o .target) × Has R (o .objector) (o .target)))
 Refuses s Room = ⊥
 Refuses s Unequal = ⊥
 Refuses s (Mark k) = ⊥

@@ -42,8 +42,10 @@ pub record Valid (R : Register) : Type 0 where
   pub few-objections : length (R .objections) ≤ 4096
   pub numbered : (i : ℕ) → i < length (numbers R) → IsNumber (getD (numbers R) i 0)
   pub once : (i j : ℕ) → i < j → j < length (numbers R) → getD (numbers R) i 0 ≡ getD (numbers R) j 0 → ⊥
-  pub known : (k : ℕ) → k < length (R .objections) → Issued R (getD (objectorNumbers R) k 0) × Issued R (getD (targetNumbers R) k 0)
-  pub distinct : (j k : ℕ) → j < k → k < length (R .objections) → getD (objectorNumbers R) j 0 ≡ getD (objectorNumbers R) k 0 → getD (targetNumbers R) j 0 ≡ getD (targetNumbers R) k 0 → ⊥
+  pub known : (k : ℕ) → k < length (R .objections)
+      → Issued R (getD (objectorNumbers R) k 0) × Issued R (getD (targetNumbers R) k 0)
+  pub distinct : (j k : ℕ) → j < k → k < length (R .objections)
+      → getD (objectorNumbers R) j 0 ≡ getD (objectorNumbers R) k 0 → getD (targetNumbers R) j 0 ≡ getD (targetNumbers R) k 0 → ⊥
 
 -- "All statement lines come before all objection lines."
 abbrev pub lines : Register → List Line

@@ -56,9 +56,12 @@ At l n v i = (i < n) × (getD l i 0 ≡ v)
 
 abbrev pub StatementTaken : (nums marks : List ℕ) (n m : ℕ) → StatementLine → ℕ → (nums′ marks′ : List ℕ) → Taken → Type 0
 StatementTaken nums marks n m st k nums′ marks′ Kept =
-    (m ≡ 0) × (n < 1024) × Absent nums n (st .number) × (nums′ ≡ set nums n (st .number)) × (marks′ ≡ set marks n (markNumber (st .mark)))
+    (m ≡ 0) × (n < 1024) × Absent nums n (st .number) × (nums′ ≡ set nums n (st .number))
+    × (marks′ ≡ set marks n (markNumber (st .mark)))
 StatementTaken nums marks n m st k nums′ marks′ (AtFault r) =
-    ((0 < m) × (r ≡ Late k)) ⊎ (((m ≡ 0) × (1024 ≤ n) × (r ≡ Statements k)) ⊎ ((m ≡ 0) × (n < 1024) × ((i : ℕ) × At nums n (st .number) i) × (r ≡ Issued k)))
+    ((0 < m) × (r ≡ Late k))
+    ⊎ (((m ≡ 0) × (1024 ≤ n) × (r ≡ Statements k))
+    ⊎ ((m ≡ 0) × (n < 1024) × ((i : ℕ) × At nums n (st .number) i) × (r ≡ Issued k)))
 
 -- the index is that of the statements kept
 abbrev pub InStep : (nums : List ℕ) (n : ℕ) (links : List ℕ) → Taken → Type 0
@@ -72,11 +75,14 @@ pub record Ends (nums : List ℕ) (n : ℕ) (o : ObjectionLine) (y x : ℕ) : Ty
   pub target : At nums n (o .target) x
   pub target-first : Absent nums x (o .target)
 
-abbrev pub ObjectionTaken : (nums objectors targets : List ℕ) (n m : ℕ) → ObjectionLine → ℕ → (objectors′ targets′ : List ℕ) → Taken → Type 0
+abbrev pub ObjectionTaken : (nums objectors targets : List ℕ) (n m : ℕ) → ObjectionLine → ℕ
+    → (objectors′ targets′ : List ℕ) → Taken → Type 0
 ObjectionTaken nums objectors targets n m o k objectors′ targets′ Kept =
     (m < 4096) × (y : ℕ) × (x : ℕ) × Ends nums n o y x × ((j : ℕ) → j < m → getD objectors j 0 ≡ y → getD targets j 0 ≡ x → ⊥)
     × (objectors′ ≡ set objectors m y) × (targets′ ≡ set targets m x)
 ObjectionTaken nums objectors targets n m o k objectors′ targets′ (AtFault r) =
     ((4096 ≤ m) × (r ≡ Objections k))
     ⊎ (((m < 4096) × (Absent nums n (o .objector) ⊎ Absent nums n (o .target)) × (r ≡ Unknown k))
-    ⊎ ((m < 4096) × ((y : ℕ) × (x : ℕ) × Ends nums n o y x × ((j : ℕ) × (j < m) × (getD objectors j 0 ≡ y) × (getD targets j 0 ≡ x))) × (r ≡ Repeated k)))
+    ⊎ ((m < 4096)
+    × ((y : ℕ) × (x : ℕ) × Ends nums n o y x × ((j : ℕ) × (j < m) × (getD objectors j 0 ≡ y) × (getD targets j 0 ≡ x)))
+    × (r ≡ Repeated k)))

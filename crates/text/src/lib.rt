@@ -66,7 +66,8 @@ fn take_statement(
 ) -> Taken
     requires { ⌜ (n ≤ 1024) × (1024 ≤ length (now numbers)) × (1024 ≤ length (now marks)) ⌝ }
     requires { ⌜ Indexed (now numbers) n (now links) ⌝ }
-    ensures { λ t. ⌜ StatementTaken (now (numbers .entry)) (now (marks .entry)) n m statement «line_no» (now (numbers .exit)) (now (marks .exit)) t × InStep (now (numbers .exit)) n (now (links .exit)) t ⌝ }
+    ensures { λ t. ⌜ StatementTaken (now (numbers .entry)) (now (marks .entry)) n m statement «line_no» (now (numbers .exit))
+        (now (marks .exit)) t × InStep (now (numbers .exit)) n (now (links .exit)) t ⌝ }
 {
     if m > 0 {
         return Taken::AtFault(Refusal::Late(line_no));
@@ -95,9 +96,11 @@ fn take_objection(
     objection: ObjectionLine,
     line_no: u32,
 ) -> Taken
-    requires { ⌜ (n ≤ 1024) × (m ≤ 4096) × (1024 ≤ length (now numbers)) × (4096 ≤ length (now objectors)) × (4096 ≤ length (now targets)) ⌝ }
+    requires { ⌜ (n ≤ 1024) × (m ≤ 4096) × (1024 ≤ length (now numbers)) × (4096 ≤ length (now objectors))
+        × (4096 ≤ length (now targets)) ⌝ }
     requires { ⌜ Indexed (now numbers) n (now links) ⌝ }
-    ensures { λ t. ⌜ ObjectionTaken (now (numbers .entry)) (now (objectors .entry)) (now (targets .entry)) n m objection «line_no» (now (objectors .exit)) (now (targets .exit)) t ⌝ }
+    ensures { λ t. ⌜ ObjectionTaken (now (numbers .entry)) (now (objectors .entry)) (now (targets .entry)) n m objection «line_no»
+        (now (objectors .exit)) (now (targets .exit)) t ⌝ }
 {
     if m >= 4096 {
         return Taken::AtFault(Refusal::Objections(line_no));
@@ -132,7 +135,8 @@ fn read_lines(
     requires { ⌜ (length (now text) ≤ 65535) × (¬ NotEnded (now text)) ⌝ }
     requires { ⌜ Spacious (now numbers) (now marks) (now objectors) (now targets) ⌝ }
     requires { ⌜ Indexed (now numbers) 0 (now links) ⌝ }
-    ensures { λ r. ⌜ ReadsTo (now (text .entry)) (now (numbers .exit)) (now (marks .exit)) (now (objectors .exit)) (now (targets .exit)) r ⌝ }
+    ensures { λ r. ⌜ ReadsTo (now (text .entry)) (now (numbers .exit)) (now (marks .exit)) (now (objectors .exit))
+        (now (targets .exit)) r ⌝ }
 {
     let mut at = 0;
     let mut n = 0;
@@ -183,7 +187,8 @@ pub fn read(
     targets: &mut [u32],
 ) -> Reading
     requires { ⌜ Spacious (now numbers) (now marks) (now objectors) (now targets) ⌝ }
-    ensures { λ r. ⌜ ReadsTo (now (text .entry)) (now (numbers .exit)) (now (marks .exit)) (now (objectors .exit)) (now (targets .exit)) r ⌝ }
+    ensures { λ r. ⌜ ReadsTo (now (text .entry)) (now (numbers .exit)) (now (marks .exit)) (now (objectors .exit))
+        (now (targets .exit)) r ⌝ }
 {
     if text.len() > 65535 {
         return Reading::Refused(Refusal::TooLong);

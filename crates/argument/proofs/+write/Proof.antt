@@ -65,7 +65,13 @@ write-returns : (t : ℕ) → write-lts.Need-returns (
   write-below t,
   write.Post,
 ) (write-at t) write.Post
-write-returns t c = (c .before .before .before .before .before .before .before .before .before .args .x ∷ [], line-ends _ _ _ _ _ (c .before .before .before .before .before .before .before .before .before .pre .1 .0 .0) _ _ (c .before .before .before .before .before .before .before .before .before .pre .1 .1 .0) (c .before .before .before .before .before .before .before .before .before .pre .1 .1 .1) (c .if1 .taken), room-first (c .before .before .before .before .before .before .before .before .before .args .line .now) (c .before .before .before .before .before .before .before .before .before .args .x) (omega (arith, c .before .before .before .before .before .before .before .before .before .pre .1 .1 .2)))
+write-returns t c =
+    let args = c .before .before .before .before .before .before .before .before .before .args in
+    let pre = c .before .before .before .before .before .before .before .before .before .pre in (
+      args .x ∷ [],
+      line-ends _ _ _ _ _ (pre .1 .0 .0) _ _ (pre .1 .1 .0) (pre .1 .1 .1) (c .if1 .taken),
+      room-first (args .line .now) (args .x) (omega (arith, pre .1 .1 .2)),
+    )
 
 write-shared-slice-read-other : (t : ℕ) → write-lts.Need-shared-slice-read-other (
   other-reads.Asked,
@@ -105,7 +111,12 @@ write-onward-requires : (t : ℕ) → write-lts.Need-onward-requires (
   write-below t,
   write.Post,
 ) (write-at t) write.Post
-write-onward-requires t c κs = (((c .before .before .before .before .before .before .before .before .before .before .before .pre .1 .0 .0), (c .before .before .before .before .before .before .before .before .before .before .before .pre .1 .0 .1), (c .before .before .before .before .before .before .before .before .before .before .before .pre .1 .1 .0)), onward-there _ _ _ _ _ (c .before .before .before .before .before .before .before .before .before .before .before .pre .1 .0 .0) _ _ (c .before .before .before .before .before .before .before .before .before .before .before .pre .1 .1 .0) (c .before .before .before .before .before .before .before .before .before .before .before .pre .1 .1 .1) _ (c .other .ensures) (c .before .before .if1 .left))
+write-onward-requires t c κs =
+    let pre = c .before .before .before .before .before .before .before .before .before .before .before .pre in (
+      ((pre .1 .0 .0), (pre .1 .0 .1), (pre .1 .1 .0)),
+      onward-there _ _ _ _ _ (pre .1 .0 .0) _ _ (pre .1 .1 .0) (pre .1 .1 .1) _
+          (c .other .ensures) (c .before .before .if1 .left),
+    )
 
 write-sub-write : (t : ℕ) → write-lts.Need-sub-write (
   other-reads.Asked,
@@ -125,7 +136,9 @@ write-sub-write-2 : (t : ℕ) → write-lts.Need-sub-write-2 (
   write-below t,
   write.Post,
 ) (write-at t) write.Post
-write-sub-write-2 t c = simp length-set (omega (arith, c .before .before .before .before .before .before .before .before .before .before .before .before .pre .1 .1 .2))
+write-sub-write-2 t c =
+    let pre = c .before .before .before .before .before .before .before .before .before .before .before .before .pre in
+    simp length-set (omega (arith, pre .1 .1 .2))
 
 write-part-write-start : (t : ℕ) → write-lts.Need-part-write-start (
   other-reads.Asked,
@@ -135,7 +148,9 @@ write-part-write-start : (t : ℕ) → write-lts.Need-part-write-start (
   write-below t,
   write.Post,
 ) (write-at t) write.Post
-write-part-write-start t c = simp length-set (omega (arith, c .before .before .before .before .before .before .before .before .before .before .before .before .pre .1 .1 .2))
+write-part-write-start t c =
+    let pre = c .before .before .before .before .before .before .before .before .before .before .before .before .pre in
+    simp length-set (omega (arith, pre .1 .1 .2))
 
 write-part-write-end : (t : ℕ) → write-lts.Need-part-write-end (
   other-reads.Asked,
@@ -155,7 +170,23 @@ write-write-requires : (t : ℕ) → write-lts.Need-write-requires (
   write-below t,
   write.Post,
 ) (write-at t) write.Post
-write-write-requires t c κs = (omega (arith, c .before .before .before .before .if1 .left, c .before .before .before .before .before .before .before .before .before .before .before .before .before .pre .0), (c .before .before .before .before .before .before .before .before .before .before .before .before .before .pre .1 .0, (onward-listed _ _ _ _ _ (c .before .before .before .before .before .before .before .before .before .before .before .before .before .pre .1 .0 .0) _ _ (c .before .before .before .before .before .before .before .before .before .before .before .before .before .pre .1 .1 .0) (c .before .before .before .before .before .before .before .before .before .before .before .before .before .pre .1 .1 .1) _ (c .before .before .other .ensures) (c .before .before .before .before .if1 .left) _ (c .before .onward .ensures), onward-turns _ _ _ _ _ (c .before .before .before .before .before .before .before .before .before .before .before .before .before .pre .1 .0 .0) _ _ (c .before .before .before .before .before .before .before .before .before .before .before .before .before .pre .1 .1 .0) (c .before .before .before .before .before .before .before .before .before .before .before .before .before .pre .1 .1 .1) _ (c .before .before .other .ensures) (c .before .before .before .before .if1 .left) _ (c .before .onward .ensures), omega (arith, rest-length (c .before .before .before .before .before .before .before .before .before .before .before .before .before .args .line .now) (c .before .before .before .before .before .before .before .before .before .before .before .before .before .args .x), c .before .before .before .before .before .before .before .before .before .before .before .before .before .pre .1 .1 .2, c .before .before .before .before .if1 .left))))
+write-write-requires t c κs =
+    let pre = c .before .before .before .before .before .before .before .before .before .before .before .before .before .pre in
+    let args = c .before .before .before .before .before .before .before .before .before .before .before .before .before .args in
+    let if1 = c .before .before .before .before .if1 in
+    let other = c .before .before .other in (
+      omega (arith, if1 .left, pre .0),
+      (
+        pre .1 .0,
+        (
+          onward-listed _ _ _ _ _ (pre .1 .0 .0) _ _ (pre .1 .1 .0) (pre .1 .1 .1) _
+              (other .ensures) (if1 .left) _ (c .before .onward .ensures),
+          onward-turns _ _ _ _ _ (pre .1 .0 .0) _ _ (pre .1 .1 .0) (pre .1 .1 .1) _ (other .ensures) (if1 .left) _
+              (c .before .onward .ensures),
+          omega (arith, rest-length (args .line .now) (args .x), pre .1 .1 .2, if1 .left),
+        ),
+      ),
+    )
 
 write-same-length-2 : (t : ℕ) → write-lts.Need-same-length-2 (
   other-reads.Asked,
@@ -165,7 +196,10 @@ write-same-length-2 : (t : ℕ) → write-lts.Need-same-length-2 (
   write-below t,
   write.Post,
 ) (write-at t) write.Post
-write-same-length-2 t c = rest-kept (c .before .before .before .before .before .before .before .before .before .before .before .before .before .before .before .before .args .line .now) (c .before .before .before .before .before .before .before .before .before .before .before .before .before .before .before .before .args .x) (c .before .before .write .last .1 .1 .1 .1 .1 .1 .1 .1 .1 .0) (c .before .before .write .kept .1 .1 .1 .1 .1 .1 .1 .1 .1 .0)
+write-same-length-2 t c =
+    let args = c .before .before .before .before .before .before .before .before .before .before .before .before .before .before .before .before .args in
+    let write = c .before .before .write in
+    rest-kept (args .line .now) (args .x) (write .last .1 .1 .1 .1 .1 .1 .1 .1 .1 .0) (write .kept .1 .1 .1 .1 .1 .1 .1 .1 .1 .0)
 
 write-returns-2 : (t : ℕ) → write-lts.Need-returns-2 (
   other-reads.Asked,
@@ -175,7 +209,17 @@ write-returns-2 : (t : ℕ) → write-lts.Need-returns-2 (
   write-below t,
   write.Post,
 ) (write-at t) write.Post
-write-returns-2 t c = let (l, r, e) = c .before .before .write .ensures in (c .before .before .before .before .before .before .before .before .before .before .before .before .before .before .before .before .args .x ∷ l, line-goes-on _ _ _ _ _ (c .before .before .before .before .before .before .before .before .before .before .before .before .before .before .before .before .pre .1 .0 .0) _ _ (c .before .before .before .before .before .before .before .before .before .before .before .before .before .before .before .before .pre .1 .1 .0) (c .before .before .before .before .before .before .before .before .before .before .before .before .before .before .before .before .pre .1 .1 .1) _ (c .before .before .before .before .before .other .ensures) (c .before .before .before .before .before .before .before .if1 .left) _ (c .before .before .before .before .onward .ensures) l r, room-rest (c .before .before .before .before .before .before .before .before .before .before .before .before .before .before .before .before .args .line .now) (c .before .before .before .before .before .before .before .before .before .before .before .before .before .before .before .before .args .x) l _ (omega (arith, c .before .before .before .before .before .before .before .before .before .before .before .before .before .before .before .before .pre .1 .1 .2)) e)
+write-returns-2 t c =
+    let args = c .before .before .before .before .before .before .before .before .before .before .before .before .before .before .before .before .args in
+    let pre = c .before .before .before .before .before .before .before .before .before .before .before .before .before .before .before .before .pre in
+    let if1 = c .before .before .before .before .before .before .before .if1 in
+    let other = c .before .before .before .before .before .other in
+    let (l, r, e) = c .before .before .write .ensures in (
+      args .x ∷ l,
+      line-goes-on _ _ _ _ _ (pre .1 .0 .0) _ _ (pre .1 .1 .0) (pre .1 .1 .1) _ (other .ensures) (if1 .left) _
+          (c .before .before .before .before .onward .ensures) l r,
+      room-rest (args .line .now) (args .x) l _ (omega (arith, pre .1 .1 .2)) e,
+    )
 
 pub +write-spec : {M : Type 1} → statement M
 +write-spec = close μ-write λ t. write-lts.spec (

@@ -16,7 +16,9 @@ add-n : tie.Need-add-n
 add-n c = search needs
 
 returns : tie.Need-returns
-returns c = lined-short _ _ _ _ _ (c .before .before .before .before .before .before .before .before .before .pre .0) _ _ (c .before .before .before .before .before .before .before .before .before .pre .1) (c .before .before .turns .ensures) _ _ (c .before .wide .ensures) (c .if1 .taken)
+returns c =
+    let pre = c .before .before .before .before .before .before .before .before .before .pre in
+    lined-short _ _ _ _ _ (pre .0) _ _ (pre .1) (c .before .before .turns .ensures) _ _ (c .before .wide .ensures) (c .if1 .taken)
 
 slice-aggregate-chain : tie.Need-slice-aggregate-chain
 slice-aggregate-chain c = search needs
@@ -25,7 +27,22 @@ slice-aggregate-chain-2 : tie.Need-slice-aggregate-chain-2
 slice-aggregate-chain-2 c = search needs
 
 chain-requires : tie.Need-chain-requires
-chain-requires c κs = ((omega (arith, c .before .before .before .before .before .before .before .before .before .before .before .pre .0 .handed .order .paired, c .before .before .before .before .before .before .before .before .before .before .before .pre .0 .handed .few-pairs), omega (arith, c .before .before .before .before .before .before .before .before .before .before .before .pre .0 .handed .order .paired, c .before .before .before .before .before .before .before .before .before .before .before .pre .0 .handed .few-pairs), search needs), (λ e h. omega (arith, c .before .before .before .before .before .before .before .before .before .before .before .pre .0 .handed .order .target e (omega (arith, c .before .before .before .before .before .before .before .before .before .before .before .pre .0 .handed .order .paired)), c .before .before .before .before .before .before .before .before .before .before .before .pre .0 .handed .few-marks), λ x. all-zero 1024 x))
+chain-requires c κs =
+    let pre = c .before .before .before .before .before .before .before .before .before .before .before .pre in (
+      (
+        omega (arith, pre .0 .handed .order .paired, pre .0 .handed .few-pairs),
+        omega (arith, pre .0 .handed .order .paired, pre .0 .handed .few-pairs),
+        search needs,
+      ),
+      (
+        λ e h. omega (
+          arith,
+          pre .0 .handed .order .target e (omega (arith, pre .0 .handed .order .paired)),
+          pre .0 .handed .few-marks,
+        ),
+        λ x. all-zero 1024 x,
+      ),
+    )
 
 slice-aggregate-write : tie.Need-slice-aggregate-write
 slice-aggregate-write c = search needs
@@ -34,13 +51,34 @@ slice-aggregate-write-2 : tie.Need-slice-aggregate-write-2
 slice-aggregate-write-2 c = search needs
 
 write-requires : tie.Need-write-requires
-write-requires c κs = ((c .before .before .before .before .before .before .before .before .before .before .before .before .before .before .before .before .before .pre .0, record { chained = c .before .before .before .before .before .chain .ensures; head-room = omega (arith, c .before .before .before .before .before .chain .kept .1 .0, c .before .before .before .before .before .before .before .before .before .before .before .before .before .before .before .before .before .pre .0 .handed .few-marks); next-room = omega (arith, c .before .before .before .before .before .chain .kept .1 .1 .0, c .before .before .before .before .before .before .before .before .before .before .before .before .before .before .before .before .before .pre .0 .handed .order .paired, c .before .before .before .before .before .before .before .before .before .before .before .before .before .before .before .before .before .pre .0 .handed .few-pairs) }), (c .before .before .before .before .before .before .before .before .before .before .before .before .before .before .before .before .before .pre .1, c .before .before .before .before .before .before .before .before .before .before .turns .ensures, omega (arith, c .before .before .before .before .before .before .before .before .before .wide .ensures, c .before .before .before .before .before .before .before .before .if1 .left)))
+write-requires c κs =
+    let pre = c .before .before .before .before .before .before .before .before .before .before .before .before .before .before .before .before .before .pre in
+    let turns = c .before .before .before .before .before .before .before .before .before .before .turns in
+    let wide = c .before .before .before .before .before .before .before .before .before .wide in
+    let if1 = c .before .before .before .before .before .before .before .before .if1 in
+    let chain = c .before .before .before .before .before .chain in (
+      (
+        pre .0,
+        record {
+          chained = chain .ensures;
+          head-room = omega (arith, chain .kept .1 .0, pre .0 .handed .few-marks);
+          next-room = omega (arith, chain .kept .1 .1 .0, pre .0 .handed .order .paired, pre .0 .handed .few-pairs);
+        },
+      ),
+      (pre .1, turns .ensures, omega (arith, wide .ensures, if1 .left)),
+    )
 
 same-length : tie.Need-same-length
 same-length c = search needs
 
 returns-2 : tie.Need-returns-2
-returns-2 c = lined-written _ _ _ _ _ (c .before .before .before .before .before .before .before .before .before .before .before .before .before .before .before .before .before .before .before .before .pre .0) _ _ (c .before .before .before .before .before .before .before .before .before .before .before .before .before .before .before .before .before .before .before .before .pre .1) (c .before .before .before .before .before .before .before .before .before .before .before .before .before .turns .ensures) _ _ _ (c .before .before .before .before .before .before .before .before .before .before .before .before .wide .ensures) (c .before .before .before .before .before .before .before .before .before .before .before .if1 .left) (c .before .before .write .ensures)
+returns-2 c =
+    let pre = c .before .before .before .before .before .before .before .before .before .before .before .before .before .before .before .before .before .before .before .before .pre in
+    let turns = c .before .before .before .before .before .before .before .before .before .before .before .before .before .turns in
+    let wide = c .before .before .before .before .before .before .before .before .before .before .before .before .wide in
+    let if1 = c .before .before .before .before .before .before .before .before .before .before .before .if1 in
+    lined-written _ _ _ _ _ (pre .0) _ _ (pre .1) (turns .ensures) _ _ _ (wide .ensures) (if1 .left)
+    (c .before .before .write .ensures)
 
 pub line-spec : {M : Type 1} → statement M
 line-spec =

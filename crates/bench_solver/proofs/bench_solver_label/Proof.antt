@@ -35,7 +35,24 @@ returns-7 : tie.Need-returns-7
 returns-7 c e = absurd (omega arith)
 
 solve-requires : tie.Need-solve-requires
-solve-requires c κs = (record { few-marks = omega arith; few-pairs = omega arith; order = in-order _ _ _ (omega arith) (found-clear (BadMark (c .before .before .before .before .before .before .before .before .before .before .before .before .before .before .before .before .args .marks .now)) _ _ (λ j p. p .0) (c .before .before .before .before .before .before .before .bad-mark .ensures) (c .before .before .before .before .before .before .if4 .left)) (found-clear (BadPlace (c .before .before .before .before .before .before .before .before .before .before .before .before .before .before .before .before .args .marks .now) (c .before .before .before .before .before .before .before .before .before .before .before .before .before .before .before .before .args .objectors .now) (c .before .before .before .before .before .before .before .before .before .before .before .before .before .before .before .before .args .targets .now)) _ _ (λ j p. p .0) (c .before .before .before .before .before .bad-place .ensures) (c .before .before .before .before .if5 .left)) }, (c .before .before .before .if6 .left, c .before .before .if7 .left))
+solve-requires c κs =
+    let args = c .before .before .before .before .before .before .before .before .before .before .before .before .before .before .before .before .args in
+    let bad-mark = c .before .before .before .before .before .before .before .bad-mark in
+    let if4 = c .before .before .before .before .before .before .if4 in
+    let bad-place = c .before .before .before .before .before .bad-place in
+    let marks = args .marks .now in (
+      record {
+        few-marks = omega arith;
+        few-pairs = omega arith;
+        order = in-order _ _ _ (omega arith) (found-clear (BadMark marks) _ _ (λ j p. p .0) (bad-mark .ensures) (if4 .left))
+            (found-clear (BadPlace marks (args .objectors .now) (args .targets .now)) _ _ (λ j p. p .0) (bad-place .ensures)
+            (c .before .before .before .before .if5 .left));
+      },
+      (
+        c .before .before .before .if6 .left,
+        c .before .before .if7 .left,
+      ),
+    )
 
 same-length : tie.Need-same-length
 same-length c = search needs

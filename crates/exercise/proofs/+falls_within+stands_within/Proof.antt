@@ -55,7 +55,8 @@ stands-within-below t =
     stands-within.Pre
 
 abbrev falls-within-Inv-loop : falls-within-lts.InvT-loop
-falls-within-Inv-loop marks objectors targets head next x turns falls₀ stands₀ slot known c₀ falls stands c = Walk targets x (Weak marks objectors targets turns) c × Known (bookOf marks objectors targets) falls stands
+falls-within-Inv-loop marks objectors targets head next x turns falls₀ stands₀ slot known c₀ falls stands c =
+    Walk targets x (Weak marks objectors targets turns) c × Known (bookOf marks objectors targets) falls stands
 
 abbrev falls-within-μ-loop : falls-within-lts.MeasureT-loop
 falls-within-μ-loop marks objectors targets head next x turns falls₀ stands₀ slot known c₀ falls stands c = c
@@ -68,7 +69,10 @@ falls-within-returns : (t : ℕ) → falls-within-lts.Need-returns (
   stands-within-below t,
   stands-within.Post,
 ) (falls-within-at t) falls-within.Post falls-within-Inv-loop falls-within-μ-loop
-falls-within-returns t c = falls-at-once (c .before .before .before .before .before .before .before .before .args .x) (c .before .before .before .before .before .before .before .before .args .turns) (c .before .before .before .before .before .before .before .before .pre .1 .0) (c .before .before .before .before .before .before .before .before .pre .1 .1) (c .if1 .taken)
+falls-within-returns t c =
+    let args = c .before .before .before .before .before .before .before .before .args in
+    let pre = c .before .before .before .before .before .before .before .before .pre in
+    falls-at-once (args .x) (args .turns) (pre .1 .0) (pre .1 .1) (c .if1 .taken)
 
 falls-within-mul-slot : (t : ℕ) → falls-within-lts.Need-mul-slot (
   wide-reads.Asked,
@@ -108,7 +112,10 @@ falls-within-returns-2 : (t : ℕ) → falls-within-lts.Need-returns-2 (
   stands-within-below t,
   stands-within.Post,
 ) (falls-within-at t) falls-within.Post falls-within-Inv-loop falls-within-μ-loop
-falls-within-returns-2 t c = falls-believed (c .before .before .before .before .before .before .before .before .before .before .args .x) (c .before .before .before .before .before .before .before .before .before .before .args .turns) (c .before .before .before .before .before .before .before .before .before .before .pre .1 .0) (c .before .before .before .before .before .before .before .before .before .before .pre .1 .1) false (c .if2 .taken)
+falls-within-returns-2 t c =
+    let args = c .before .before .before .before .before .before .before .before .before .before .args in
+    let pre = c .before .before .before .before .before .before .before .before .before .before .pre in
+    falls-believed (args .x) (args .turns) (pre .1 .0) (pre .1 .1) false (c .if2 .taken)
 
 falls-within-returns-3 : (t : ℕ) → falls-within-lts.Need-returns-3 (
   wide-reads.Asked,
@@ -118,7 +125,10 @@ falls-within-returns-3 : (t : ℕ) → falls-within-lts.Need-returns-3 (
   stands-within-below t,
   stands-within.Post,
 ) (falls-within-at t) falls-within.Post falls-within-Inv-loop falls-within-μ-loop
-falls-within-returns-3 t c = falls-believed (c .before .before .before .before .before .before .before .before .before .before .before .args .x) (c .before .before .before .before .before .before .before .before .before .before .before .args .turns) (c .before .before .before .before .before .before .before .before .before .before .before .pre .1 .0) (c .before .before .before .before .before .before .before .before .before .before .before .pre .1 .1) true (c .if3 .taken)
+falls-within-returns-3 t c =
+    let args = c .before .before .before .before .before .before .before .before .before .before .before .args in
+    let pre = c .before .before .before .before .before .before .before .before .before .before .before .pre in
+    falls-believed (args .x) (args .turns) (pre .1 .0) (pre .1 .1) true (c .if3 .taken)
 
 falls-within-mul-wide : (t : ℕ) → falls-within-lts.Need-mul-wide (
   wide-reads.Asked,
@@ -158,7 +168,10 @@ falls-within-loop-holds : (t : ℕ) → falls-within-lts.Need-loop-holds (
   stands-within-below t,
   stands-within.Post,
 ) (falls-within-at t) falls-within.Post falls-within-Inv-loop falls-within-μ-loop
-falls-within-loop-holds t c = (begins (c .before .before .before .before .before .before .before .before .before .before .before .before .before .args .x) (c .before .before .before .before .before .before .before .before .before .before .before .before .before .args .turns) (c .before .before .before .before .before .before .before .before .before .before .before .before .before .pre .1 .0) _ _ (c .wide .ensures), c .before .before .before .before .before .before .before .before .before .before .before .before .before .pre .1 .1)
+falls-within-loop-holds t c =
+    let args = c .before .before .before .before .before .before .before .before .before .before .before .before .before .args in
+    let pre = c .before .before .before .before .before .before .before .before .before .before .before .before .before .pre in
+    (begins (args .x) (args .turns) (pre .1 .0) _ _ (c .wide .ensures), pre .1 .1)
 
 falls-within-sub-place : (t : ℕ) → falls-within-lts.Need-sub-place (
   wide-reads.Asked,
@@ -258,7 +271,23 @@ falls-within-stands-within-requires : (t : ℕ) → falls-within-lts.Need-stands
   stands-within-below t,
   stands-within.Post,
 ) (falls-within-at t) falls-within.Post falls-within-Inv-loop falls-within-μ-loop
-falls-within-stands-within-requires t c κs = (omega (arith, c .before .before .before .before .before .before .before .before .before .before .before .before .before .before .before .before .before .before .before .before .before .pre .0, c .before .before .before .before .before .before .before .before .before .before .before .before .before .if1 .left), ((c .before .before .before .before .before .before .before .before .before .before .before .before .before .before .before .before .before .before .before .before .before .pre .1 .0 .0, listed (c .before .before .before .before .before .before .before .before .before .before .before .before .before .before .before .before .before .before .before .before .before .args .x) (c .before .before .before .before .before .before .before .before .before .before .before .before .before .before .before .before .before .before .before .before .before .args .turns) (c .before .before .before .before .before .before .before .before .before .before .before .before .before .before .before .before .before .before .before .before .before .pre .1 .0) _ (c .before .before .before .before .before .before .before .loop .c) (c .before .before .before .before .before .before .before .loop .inv .0) (c .before .before .before .before .before .before .loop-test .taken) _ (c .before .before .before .before .place .ensures), omega (arith, c .before .before .before .before .before .before .before .before .before .before .before .before .before .before .before .before .before .before .before .before .before .pre .1 .0 .2)), c .before .before .before .before .before .before .before .loop .inv .1))
+falls-within-stands-within-requires t c κs =
+    let pre = c .before .before .before .before .before .before .before .before .before .before .before .before .before .before .before .before .before .before .before .before .before .pre in
+    let args = c .before .before .before .before .before .before .before .before .before .before .before .before .before .before .before .before .before .before .before .before .before .args in
+    let if1 = c .before .before .before .before .before .before .before .before .before .before .before .before .before .if1 in
+    let loop = c .before .before .before .before .before .before .before .loop in
+    let loop-test = c .before .before .before .before .before .before .loop-test in (
+      omega (arith, pre .0, if1 .left),
+      (
+        (
+          pre .1 .0 .0,
+          listed (args .x) (args .turns) (pre .1 .0) _ (loop .c) (loop .inv .0)
+              (loop-test .taken) _ (c .before .before .before .before .place .ensures),
+          omega (arith, pre .1 .0 .2),
+        ),
+        loop .inv .1,
+      ),
+    )
 
 falls-within-slice-write-falls : (t : ℕ) → falls-within-lts.Need-slice-write-falls (
   wide-reads.Asked,
@@ -268,7 +297,11 @@ falls-within-slice-write-falls : (t : ℕ) → falls-within-lts.Need-slice-write
   stands-within-below t,
   stands-within.Post,
 ) (falls-within-at t) falls-within.Post falls-within-Inv-loop falls-within-μ-loop
-falls-within-slice-write-falls t c = falls-slot (c .before .before .before .before .before .before .before .before .before .before .before .before .before .before .before .before .before .before .before .before .before .before .before .before .before .before .before .args .x) (c .before .before .before .before .before .before .before .before .before .before .before .before .before .before .before .before .before .before .before .before .before .before .before .before .before .before .before .args .turns) (c .before .before .before .before .before .before .before .before .before .before .before .before .before .before .before .before .before .before .before .before .before .before .before .before .before .before .before .pre .1 .0) (c .before .before .before .before .before .stands-within .ensures .1)
+falls-within-slice-write-falls t c =
+    let args = c .before .before .before .before .before .before .before .before .before .before .before .before .before .before .before .before .before .before .before .before .before .before .before .before .before .before .before .args in
+    let pre = c .before .before .before .before .before .before .before .before .before .before .before .before .before .before .before .before .before .before .before .before .before .before .before .before .before .before .before .pre in
+    let stands-within = c .before .before .before .before .before .stands-within in
+    falls-slot (args .x) (args .turns) (pre .1 .0) (stands-within .ensures .1)
 
 falls-within-same-length : (t : ℕ) → falls-within-lts.Need-same-length (
   wide-reads.Asked,
@@ -278,7 +311,10 @@ falls-within-same-length : (t : ℕ) → falls-within-lts.Need-same-length (
   stands-within-below t,
   stands-within.Post,
 ) (falls-within-at t) falls-within.Post falls-within-Inv-loop falls-within-μ-loop
-falls-within-same-length t c = set-room _ _ _ _ _ (c .before .before .before .before .before .stands-within .ensures .1 .fell) (c .before .before .before .before .before .before .before .before .before .before .before .before .before .before .before .before .before .before .before .before .before .before .before .before .before .before .before .pre .1 .1 .fell)
+falls-within-same-length t c =
+    let pre = c .before .before .before .before .before .before .before .before .before .before .before .before .before .before .before .before .before .before .before .before .before .before .before .before .before .before .before .pre in
+    let stands-within = c .before .before .before .before .before .stands-within in
+    set-room _ _ _ _ _ (stands-within .ensures .1 .fell) (pre .1 .1 .fell)
 
 falls-within-same-length-2 : (t : ℕ) → falls-within-lts.Need-same-length-2 (
   wide-reads.Asked,
@@ -288,7 +324,10 @@ falls-within-same-length-2 : (t : ℕ) → falls-within-lts.Need-same-length-2 (
   stands-within-below t,
   stands-within.Post,
 ) (falls-within-at t) falls-within.Post falls-within-Inv-loop falls-within-μ-loop
-falls-within-same-length-2 t c = same-room _ _ _ (c .before .before .before .before .before .stands-within .ensures .1 .stood) (c .before .before .before .before .before .before .before .before .before .before .before .before .before .before .before .before .before .before .before .before .before .before .before .before .before .before .before .pre .1 .1 .stood)
+falls-within-same-length-2 t c =
+    let pre = c .before .before .before .before .before .before .before .before .before .before .before .before .before .before .before .before .before .before .before .before .before .before .before .before .before .before .before .pre in
+    let stands-within = c .before .before .before .before .before .stands-within in
+    same-room _ _ _ (stands-within .ensures .1 .stood) (pre .1 .1 .stood)
 
 falls-within-returns-4 : (t : ℕ) → falls-within-lts.Need-returns-4 (
   wide-reads.Asked,
@@ -298,7 +337,16 @@ falls-within-returns-4 : (t : ℕ) → falls-within-lts.Need-returns-4 (
   stands-within-below t,
   stands-within.Post,
 ) (falls-within-at t) falls-within.Post falls-within-Inv-loop falls-within-μ-loop
-falls-within-returns-4 t c = falls-found (c .before .before .before .before .before .before .before .before .before .before .before .before .before .before .before .before .before .before .before .before .before .before .before .before .before .before .before .args .x) (c .before .before .before .before .before .before .before .before .before .before .before .before .before .before .before .before .before .before .before .before .before .before .before .before .before .before .before .args .turns) (c .before .before .before .before .before .before .before .before .before .before .before .before .before .before .before .before .before .before .before .before .before .before .before .before .before .before .before .pre .1 .0) (c .before .before .before .before .before .stands-within .ensures .1) (c .before .before .before .before .before .before .before .before .before .before .before .before .before .before .before .before .before .before .before .if1 .left) (c .before .before .before .before .before .before .before .before .before .before .before .before .before .loop .c) (c .before .before .before .before .before .before .before .before .before .before .before .before .before .loop .inv .0) (c .before .before .before .before .before .before .before .before .before .before .before .before .loop-test .taken) _ _ (c .before .before .before .before .before .before .before .before .before .before .place .ensures) (c .before .before .before .before .before .stands-within .ensures .0) (c .if4 .taken)
+falls-within-returns-4 t c =
+    let args = c .before .before .before .before .before .before .before .before .before .before .before .before .before .before .before .before .before .before .before .before .before .before .before .before .before .before .before .args in
+    let pre = c .before .before .before .before .before .before .before .before .before .before .before .before .before .before .before .before .before .before .before .before .before .before .before .before .before .before .before .pre in
+    let if1 = c .before .before .before .before .before .before .before .before .before .before .before .before .before .before .before .before .before .before .before .if1 in
+    let loop = c .before .before .before .before .before .before .before .before .before .before .before .before .before .loop in
+    let loop-test = c .before .before .before .before .before .before .before .before .before .before .before .before .loop-test in
+    let place = c .before .before .before .before .before .before .before .before .before .before .place in
+    let stands-within = c .before .before .before .before .before .stands-within in
+    falls-found (args .x) (args .turns) (pre .1 .0) (stands-within .ensures .1) (if1 .left) (loop .c) (loop .inv .0)
+    (loop-test .taken) _ _ (place .ensures) (stands-within .ensures .0) (c .if4 .taken)
 
 falls-within-loop-less : (t : ℕ) → falls-within-lts.Need-loop-less (
   wide-reads.Asked,
@@ -308,7 +356,13 @@ falls-within-loop-less : (t : ℕ) → falls-within-lts.Need-loop-less (
   stands-within-below t,
   stands-within.Post,
 ) (falls-within-at t) falls-within.Post falls-within-Inv-loop falls-within-μ-loop
-falls-within-loop-less t c = lower (c .before .before .before .before .before .before .before .before .before .before .before .before .before .before .before .before .before .before .before .before .before .before .before .before .before .before .before .args .x) (c .before .before .before .before .before .before .before .before .before .before .before .before .before .before .before .before .before .before .before .before .before .before .before .before .before .before .before .args .turns) (c .before .before .before .before .before .before .before .before .before .before .before .before .before .before .before .before .before .before .before .before .before .before .before .before .before .before .before .pre .1 .0) _ (c .before .before .before .before .before .before .before .before .before .before .before .before .before .loop .c) (c .before .before .before .before .before .before .before .before .before .before .before .before .before .loop .inv .0) (c .before .before .before .before .before .before .before .before .before .before .before .before .loop-test .taken) _ (c .before .before .before .before .before .before .before .before .wide2 .ensures)
+falls-within-loop-less t c =
+    let args = c .before .before .before .before .before .before .before .before .before .before .before .before .before .before .before .before .before .before .before .before .before .before .before .before .before .before .before .args in
+    let pre = c .before .before .before .before .before .before .before .before .before .before .before .before .before .before .before .before .before .before .before .before .before .before .before .before .before .before .before .pre in
+    let loop = c .before .before .before .before .before .before .before .before .before .before .before .before .before .loop in
+    let loop-test = c .before .before .before .before .before .before .before .before .before .before .before .before .loop-test in
+    let wide2 = c .before .before .before .before .before .before .before .before .wide2 in
+    lower (args .x) (args .turns) (pre .1 .0) _ (loop .c) (loop .inv .0) (loop-test .taken) _ (wide2 .ensures)
 
 falls-within-loop-again : (t : ℕ) → falls-within-lts.Need-loop-again (
   wide-reads.Asked,
@@ -318,7 +372,17 @@ falls-within-loop-again : (t : ℕ) → falls-within-lts.Need-loop-again (
   stands-within-below t,
   stands-within.Post,
 ) (falls-within-at t) falls-within.Post falls-within-Inv-loop falls-within-μ-loop
-falls-within-loop-again t c = falls-goes-on (c .before .before .before .before .before .before .before .before .before .before .before .before .before .before .before .before .before .before .before .before .before .before .before .before .before .before .before .args .x) (c .before .before .before .before .before .before .before .before .before .before .before .before .before .before .before .before .before .before .before .before .before .before .before .before .before .before .before .args .turns) (c .before .before .before .before .before .before .before .before .before .before .before .before .before .before .before .before .before .before .before .before .before .before .before .before .before .before .before .pre .1 .0) (c .before .before .before .before .before .stands-within .ensures .1) (c .before .before .before .before .before .before .before .before .before .before .before .before .before .before .before .before .before .before .before .if1 .left) (c .before .before .before .before .before .before .before .before .before .before .before .before .before .loop .c) (c .before .before .before .before .before .before .before .before .before .before .before .before .before .loop .inv .0) (c .before .before .before .before .before .before .before .before .before .before .before .before .loop-test .taken) _ _ (c .before .before .before .before .before .before .before .before .before .before .place .ensures) (c .before .before .before .before .before .stands-within .ensures .0) (c .if4 .left) _ (c .before .before .before .before .before .before .before .before .wide2 .ensures)
+falls-within-loop-again t c =
+    let args = c .before .before .before .before .before .before .before .before .before .before .before .before .before .before .before .before .before .before .before .before .before .before .before .before .before .before .before .args in
+    let pre = c .before .before .before .before .before .before .before .before .before .before .before .before .before .before .before .before .before .before .before .before .before .before .before .before .before .before .before .pre in
+    let if1 = c .before .before .before .before .before .before .before .before .before .before .before .before .before .before .before .before .before .before .before .if1 in
+    let loop = c .before .before .before .before .before .before .before .before .before .before .before .before .before .loop in
+    let loop-test = c .before .before .before .before .before .before .before .before .before .before .before .before .loop-test in
+    let place = c .before .before .before .before .before .before .before .before .before .before .place in
+    let wide2 = c .before .before .before .before .before .before .before .before .wide2 in
+    let stands-within = c .before .before .before .before .before .stands-within in
+    falls-goes-on (args .x) (args .turns) (pre .1 .0) (stands-within .ensures .1) (if1 .left) (loop .c) (loop .inv .0)
+    (loop-test .taken) _ _ (place .ensures) (stands-within .ensures .0) (c .if4 .left) _ (wide2 .ensures)
 
 falls-within-slice-write-falls-2 : (t : ℕ) → falls-within-lts.Need-slice-write-falls-2 (
   wide-reads.Asked,
@@ -328,7 +392,10 @@ falls-within-slice-write-falls-2 : (t : ℕ) → falls-within-lts.Need-slice-wri
   stands-within-below t,
   stands-within.Post,
 ) (falls-within-at t) falls-within.Post falls-within-Inv-loop falls-within-μ-loop
-falls-within-slice-write-falls-2 t c = falls-slot (c .before .before .before .before .before .before .before .before .before .before .before .before .before .before .before .args .x) (c .before .before .before .before .before .before .before .before .before .before .before .before .before .before .before .args .turns) (c .before .before .before .before .before .before .before .before .before .before .before .before .before .before .before .pre .1 .0) (c .before .loop .inv .1)
+falls-within-slice-write-falls-2 t c =
+    let args = c .before .before .before .before .before .before .before .before .before .before .before .before .before .before .before .args in
+    let pre = c .before .before .before .before .before .before .before .before .before .before .before .before .before .before .before .pre in
+    falls-slot (args .x) (args .turns) (pre .1 .0) (c .before .loop .inv .1)
 
 falls-within-same-length-3 : (t : ℕ) → falls-within-lts.Need-same-length-3 (
   wide-reads.Asked,
@@ -338,7 +405,9 @@ falls-within-same-length-3 : (t : ℕ) → falls-within-lts.Need-same-length-3 (
   stands-within-below t,
   stands-within.Post,
 ) (falls-within-at t) falls-within.Post falls-within-Inv-loop falls-within-μ-loop
-falls-within-same-length-3 t c = set-room _ _ _ _ _ (c .before .loop .inv .1 .fell) (c .before .before .before .before .before .before .before .before .before .before .before .before .before .before .before .pre .1 .1 .fell)
+falls-within-same-length-3 t c =
+    let pre = c .before .before .before .before .before .before .before .before .before .before .before .before .before .before .before .pre in
+    set-room _ _ _ _ _ (c .before .loop .inv .1 .fell) (pre .1 .1 .fell)
 
 falls-within-same-length-4 : (t : ℕ) → falls-within-lts.Need-same-length-4 (
   wide-reads.Asked,
@@ -348,7 +417,9 @@ falls-within-same-length-4 : (t : ℕ) → falls-within-lts.Need-same-length-4 (
   stands-within-below t,
   stands-within.Post,
 ) (falls-within-at t) falls-within.Post falls-within-Inv-loop falls-within-μ-loop
-falls-within-same-length-4 t c = same-room _ _ _ (c .before .loop .inv .1 .stood) (c .before .before .before .before .before .before .before .before .before .before .before .before .before .before .before .pre .1 .1 .stood)
+falls-within-same-length-4 t c =
+    let pre = c .before .before .before .before .before .before .before .before .before .before .before .before .before .before .before .pre in
+    same-room _ _ _ (c .before .loop .inv .1 .stood) (pre .1 .1 .stood)
 
 falls-within-returns-5 : (t : ℕ) → falls-within-lts.Need-returns-5 (
   wide-reads.Asked,
@@ -358,10 +429,16 @@ falls-within-returns-5 : (t : ℕ) → falls-within-lts.Need-returns-5 (
   stands-within-below t,
   stands-within.Post,
 ) (falls-within-at t) falls-within.Post falls-within-Inv-loop falls-within-μ-loop
-falls-within-returns-5 t c = falls-ends (c .before .before .before .before .before .before .before .before .before .before .before .before .before .before .before .args .x) (c .before .before .before .before .before .before .before .before .before .before .before .before .before .before .before .args .turns) (c .before .before .before .before .before .before .before .before .before .before .before .before .before .before .before .pre .1 .0) (c .before .loop .inv .1) (c .before .before .before .before .before .before .before .if1 .left) (c .before .loop .c) (c .before .loop .inv .0) (c .loop-test .left)
+falls-within-returns-5 t c =
+    let args = c .before .before .before .before .before .before .before .before .before .before .before .before .before .before .before .args in
+    let pre = c .before .before .before .before .before .before .before .before .before .before .before .before .before .before .before .pre in
+    let if1 = c .before .before .before .before .before .before .before .if1 in
+    falls-ends (args .x) (args .turns) (pre .1 .0) (c .before .loop .inv .1) (if1 .left) (c .before .loop .c)
+    (c .before .loop .inv .0) (c .loop-test .left)
 
 abbrev stands-within-Inv-loop : stands-within-lts.InvT-loop
-stands-within-Inv-loop marks objectors targets head next x turns falls₀ stands₀ slot known c₀ falls stands c = Walk targets x (Beaten marks objectors targets turns) c × Known (bookOf marks objectors targets) falls stands
+stands-within-Inv-loop marks objectors targets head next x turns falls₀ stands₀ slot known c₀ falls stands c =
+    Walk targets x (Beaten marks objectors targets turns) c × Known (bookOf marks objectors targets) falls stands
 
 abbrev stands-within-μ-loop : stands-within-lts.MeasureT-loop
 stands-within-μ-loop marks objectors targets head next x turns falls₀ stands₀ slot known c₀ falls stands c = c
@@ -384,7 +461,10 @@ stands-within-returns : (t : ℕ) → stands-within-lts.Need-returns (
   falls-within-below t,
   falls-within.Post,
 ) (stands-within-at t) stands-within.Post stands-within-Inv-loop stands-within-μ-loop
-stands-within-returns t c = stands-never (c .before .before .before .before .before .before .before .before .before .args .x) (c .before .before .before .before .before .before .before .before .before .args .turns) (c .before .before .before .before .before .before .before .before .before .pre .1 .0) (c .before .before .before .before .before .before .before .before .before .pre .1 .1) (c .if1 .taken)
+stands-within-returns t c =
+    let args = c .before .before .before .before .before .before .before .before .before .args in
+    let pre = c .before .before .before .before .before .before .before .before .before .pre in
+    stands-never (args .x) (args .turns) (pre .1 .0) (pre .1 .1) (c .if1 .taken)
 
 stands-within-mul-slot : (t : ℕ) → stands-within-lts.Need-mul-slot (
   wide-reads.Asked,
@@ -424,7 +504,10 @@ stands-within-returns-2 : (t : ℕ) → stands-within-lts.Need-returns-2 (
   falls-within-below t,
   falls-within.Post,
 ) (stands-within-at t) stands-within.Post stands-within-Inv-loop stands-within-μ-loop
-stands-within-returns-2 t c = stands-believed (c .before .before .before .before .before .before .before .before .before .before .before .args .x) (c .before .before .before .before .before .before .before .before .before .before .before .args .turns) (c .before .before .before .before .before .before .before .before .before .before .before .pre .1 .0) (c .before .before .before .before .before .before .before .before .before .before .before .pre .1 .1) false (c .if2 .taken)
+stands-within-returns-2 t c =
+    let args = c .before .before .before .before .before .before .before .before .before .before .before .args in
+    let pre = c .before .before .before .before .before .before .before .before .before .before .before .pre in
+    stands-believed (args .x) (args .turns) (pre .1 .0) (pre .1 .1) false (c .if2 .taken)
 
 stands-within-returns-3 : (t : ℕ) → stands-within-lts.Need-returns-3 (
   wide-reads.Asked,
@@ -434,7 +517,10 @@ stands-within-returns-3 : (t : ℕ) → stands-within-lts.Need-returns-3 (
   falls-within-below t,
   falls-within.Post,
 ) (stands-within-at t) stands-within.Post stands-within-Inv-loop stands-within-μ-loop
-stands-within-returns-3 t c = stands-believed (c .before .before .before .before .before .before .before .before .before .before .before .before .args .x) (c .before .before .before .before .before .before .before .before .before .before .before .before .args .turns) (c .before .before .before .before .before .before .before .before .before .before .before .before .pre .1 .0) (c .before .before .before .before .before .before .before .before .before .before .before .before .pre .1 .1) true (c .if3 .taken)
+stands-within-returns-3 t c =
+    let args = c .before .before .before .before .before .before .before .before .before .before .before .before .args in
+    let pre = c .before .before .before .before .before .before .before .before .before .before .before .before .pre in
+    stands-believed (args .x) (args .turns) (pre .1 .0) (pre .1 .1) true (c .if3 .taken)
 
 stands-within-mul-wide : (t : ℕ) → stands-within-lts.Need-mul-wide (
   wide-reads.Asked,
@@ -474,7 +560,10 @@ stands-within-loop-holds : (t : ℕ) → stands-within-lts.Need-loop-holds (
   falls-within-below t,
   falls-within.Post,
 ) (stands-within-at t) stands-within.Post stands-within-Inv-loop stands-within-μ-loop
-stands-within-loop-holds t c = (begins (c .before .before .before .before .before .before .before .before .before .before .before .before .before .before .args .x) (c .before .before .before .before .before .before .before .before .before .before .before .before .before .before .args .turns) (c .before .before .before .before .before .before .before .before .before .before .before .before .before .before .pre .1 .0) _ _ (c .wide .ensures), c .before .before .before .before .before .before .before .before .before .before .before .before .before .before .pre .1 .1)
+stands-within-loop-holds t c =
+    let args = c .before .before .before .before .before .before .before .before .before .before .before .before .before .before .args in
+    let pre = c .before .before .before .before .before .before .before .before .before .before .before .before .before .before .pre in
+    (begins (args .x) (args .turns) (pre .1 .0) _ _ (c .wide .ensures), pre .1 .1)
 
 stands-within-same-length : (t : ℕ) → stands-within-lts.Need-same-length (
   wide-reads.Asked,
@@ -484,7 +573,9 @@ stands-within-same-length : (t : ℕ) → stands-within-lts.Need-same-length (
   falls-within-below t,
   falls-within.Post,
 ) (stands-within-at t) stands-within.Post stands-within-Inv-loop stands-within-μ-loop
-stands-within-same-length t c = same-room _ _ _ (c .before .before .loop .inv .1 .fell) (c .before .before .before .before .before .before .before .before .before .before .before .before .before .before .before .before .before .pre .1 .1 .fell)
+stands-within-same-length t c =
+    let pre = c .before .before .before .before .before .before .before .before .before .before .before .before .before .before .before .before .before .pre in
+    same-room _ _ _ (c .before .before .loop .inv .1 .fell) (pre .1 .1 .fell)
 
 stands-within-same-length-2 : (t : ℕ) → stands-within-lts.Need-same-length-2 (
   wide-reads.Asked,
@@ -494,7 +585,9 @@ stands-within-same-length-2 : (t : ℕ) → stands-within-lts.Need-same-length-2
   falls-within-below t,
   falls-within.Post,
 ) (stands-within-at t) stands-within.Post stands-within-Inv-loop stands-within-μ-loop
-stands-within-same-length-2 t c = same-room _ _ _ (c .before .before .loop .inv .1 .stood) (c .before .before .before .before .before .before .before .before .before .before .before .before .before .before .before .before .before .pre .1 .1 .stood)
+stands-within-same-length-2 t c =
+    let pre = c .before .before .before .before .before .before .before .before .before .before .before .before .before .before .before .before .before .pre in
+    same-room _ _ _ (c .before .before .loop .inv .1 .stood) (pre .1 .1 .stood)
 
 stands-within-returns-4 : (t : ℕ) → stands-within-lts.Need-returns-4 (
   wide-reads.Asked,
@@ -504,7 +597,12 @@ stands-within-returns-4 : (t : ℕ) → stands-within-lts.Need-returns-4 (
   falls-within-below t,
   falls-within.Post,
 ) (stands-within-at t) stands-within.Post stands-within-Inv-loop stands-within-μ-loop
-stands-within-returns-4 t c = stands-too-late (c .before .before .before .before .before .before .before .before .before .before .before .before .before .before .before .before .before .args .x) (c .before .before .before .before .before .before .before .before .before .before .before .before .before .before .before .before .before .args .turns) (c .before .before .before .before .before .before .before .before .before .before .before .before .before .before .before .before .before .pre .1 .0) (c .before .before .loop .inv .1) (c .before .before .loop .c) (c .before .before .loop .inv .0) (c .before .loop-test .taken) (c .if4 .taken)
+stands-within-returns-4 t c =
+    let args = c .before .before .before .before .before .before .before .before .before .before .before .before .before .before .before .before .before .args in
+    let pre = c .before .before .before .before .before .before .before .before .before .before .before .before .before .before .before .before .before .pre in
+    let loop = c .before .before .loop in
+    stands-too-late (args .x) (args .turns) (pre .1 .0) (loop .inv .1) (loop .c) (loop .inv .0) (c .before .loop-test .taken)
+    (c .if4 .taken)
 
 stands-within-sub-place : (t : ℕ) → stands-within-lts.Need-sub-place (
   wide-reads.Asked,
@@ -604,7 +702,23 @@ stands-within-falls-within-requires : (t : ℕ) → stands-within-lts.Need-falls
   falls-within-below t,
   falls-within.Post,
 ) (stands-within-at t) stands-within.Post stands-within-Inv-loop stands-within-μ-loop
-stands-within-falls-within-requires t c κs = (omega (arith, c .before .before .before .before .before .before .before .before .before .before .before .before .before .before .before .before .before .before .before .before .before .before .before .pre .0, c .before .before .before .before .before .before .if4 .left), ((c .before .before .before .before .before .before .before .before .before .before .before .before .before .before .before .before .before .before .before .before .before .before .before .pre .1 .0 .0, listed (c .before .before .before .before .before .before .before .before .before .before .before .before .before .before .before .before .before .before .before .before .before .before .before .args .x) (c .before .before .before .before .before .before .before .before .before .before .before .before .before .before .before .before .before .before .before .before .before .before .before .args .turns) (c .before .before .before .before .before .before .before .before .before .before .before .before .before .before .before .before .before .before .before .before .before .before .before .pre .1 .0) _ (c .before .before .before .before .before .before .before .before .loop .c) (c .before .before .before .before .before .before .before .before .loop .inv .0) (c .before .before .before .before .before .before .before .loop-test .taken) _ (c .before .before .before .before .place .ensures), omega (arith, c .before .before .before .before .before .before .before .before .before .before .before .before .before .before .before .before .before .before .before .before .before .before .before .pre .1 .0 .2)), c .before .before .before .before .before .before .before .before .loop .inv .1))
+stands-within-falls-within-requires t c κs =
+    let pre = c .before .before .before .before .before .before .before .before .before .before .before .before .before .before .before .before .before .before .before .before .before .before .before .pre in
+    let args = c .before .before .before .before .before .before .before .before .before .before .before .before .before .before .before .before .before .before .before .before .before .before .before .args in
+    let loop = c .before .before .before .before .before .before .before .before .loop in
+    let loop-test = c .before .before .before .before .before .before .before .loop-test in
+    let if4 = c .before .before .before .before .before .before .if4 in (
+      omega (arith, pre .0, if4 .left),
+      (
+        (
+          pre .1 .0 .0,
+          listed (args .x) (args .turns) (pre .1 .0) _ (loop .c) (loop .inv .0)
+              (loop-test .taken) _ (c .before .before .before .before .place .ensures),
+          omega (arith, pre .1 .0 .2),
+        ),
+        loop .inv .1,
+      ),
+    )
 
 stands-within-slice-write-stands : (t : ℕ) → stands-within-lts.Need-slice-write-stands (
   wide-reads.Asked,
@@ -614,7 +728,11 @@ stands-within-slice-write-stands : (t : ℕ) → stands-within-lts.Need-slice-wr
   falls-within-below t,
   falls-within.Post,
 ) (stands-within-at t) stands-within.Post stands-within-Inv-loop stands-within-μ-loop
-stands-within-slice-write-stands t c = stands-slot (c .before .before .before .before .before .before .before .before .before .before .before .before .before .before .before .before .before .before .before .before .before .before .before .before .before .before .before .before .before .args .x) (c .before .before .before .before .before .before .before .before .before .before .before .before .before .before .before .before .before .before .before .before .before .before .before .before .before .before .before .before .before .args .turns) (c .before .before .before .before .before .before .before .before .before .before .before .before .before .before .before .before .before .before .before .before .before .before .before .before .before .before .before .before .before .pre .1 .0) (c .before .before .before .before .before .falls-within .ensures .1)
+stands-within-slice-write-stands t c =
+    let args = c .before .before .before .before .before .before .before .before .before .before .before .before .before .before .before .before .before .before .before .before .before .before .before .before .before .before .before .before .before .args in
+    let pre = c .before .before .before .before .before .before .before .before .before .before .before .before .before .before .before .before .before .before .before .before .before .before .before .before .before .before .before .before .before .pre in
+    let falls-within = c .before .before .before .before .before .falls-within in
+    stands-slot (args .x) (args .turns) (pre .1 .0) (falls-within .ensures .1)
 
 stands-within-same-length-3 : (t : ℕ) → stands-within-lts.Need-same-length-3 (
   wide-reads.Asked,
@@ -624,7 +742,10 @@ stands-within-same-length-3 : (t : ℕ) → stands-within-lts.Need-same-length-3
   falls-within-below t,
   falls-within.Post,
 ) (stands-within-at t) stands-within.Post stands-within-Inv-loop stands-within-μ-loop
-stands-within-same-length-3 t c = same-room _ _ _ (c .before .before .before .before .before .falls-within .ensures .1 .fell) (c .before .before .before .before .before .before .before .before .before .before .before .before .before .before .before .before .before .before .before .before .before .before .before .before .before .before .before .before .before .pre .1 .1 .fell)
+stands-within-same-length-3 t c =
+    let pre = c .before .before .before .before .before .before .before .before .before .before .before .before .before .before .before .before .before .before .before .before .before .before .before .before .before .before .before .before .before .pre in
+    let falls-within = c .before .before .before .before .before .falls-within in
+    same-room _ _ _ (falls-within .ensures .1 .fell) (pre .1 .1 .fell)
 
 stands-within-same-length-4 : (t : ℕ) → stands-within-lts.Need-same-length-4 (
   wide-reads.Asked,
@@ -634,7 +755,10 @@ stands-within-same-length-4 : (t : ℕ) → stands-within-lts.Need-same-length-4
   falls-within-below t,
   falls-within.Post,
 ) (stands-within-at t) stands-within.Post stands-within-Inv-loop stands-within-μ-loop
-stands-within-same-length-4 t c = set-room _ _ _ _ _ (c .before .before .before .before .before .falls-within .ensures .1 .stood) (c .before .before .before .before .before .before .before .before .before .before .before .before .before .before .before .before .before .before .before .before .before .before .before .before .before .before .before .before .before .pre .1 .1 .stood)
+stands-within-same-length-4 t c =
+    let pre = c .before .before .before .before .before .before .before .before .before .before .before .before .before .before .before .before .before .before .before .before .before .before .before .before .before .before .before .before .before .pre in
+    let falls-within = c .before .before .before .before .before .falls-within in
+    set-room _ _ _ _ _ (falls-within .ensures .1 .stood) (pre .1 .1 .stood)
 
 stands-within-returns-5 : (t : ℕ) → stands-within-lts.Need-returns-5 (
   wide-reads.Asked,
@@ -644,7 +768,16 @@ stands-within-returns-5 : (t : ℕ) → stands-within-lts.Need-returns-5 (
   falls-within-below t,
   falls-within.Post,
 ) (stands-within-at t) stands-within.Post stands-within-Inv-loop stands-within-μ-loop
-stands-within-returns-5 t c = stands-lost (c .before .before .before .before .before .before .before .before .before .before .before .before .before .before .before .before .before .before .before .before .before .before .before .before .before .before .before .before .before .args .x) (c .before .before .before .before .before .before .before .before .before .before .before .before .before .before .before .before .before .before .before .before .before .before .before .before .before .before .before .before .before .args .turns) (c .before .before .before .before .before .before .before .before .before .before .before .before .before .before .before .before .before .before .before .before .before .before .before .before .before .before .before .before .before .pre .1 .0) (c .before .before .before .before .before .falls-within .ensures .1) (c .before .before .before .before .before .before .before .before .before .before .before .before .before .before .loop .c) (c .before .before .before .before .before .before .before .before .before .before .before .before .before .before .loop .inv .0) (c .before .before .before .before .before .before .before .before .before .before .before .before .before .loop-test .taken) (c .before .before .before .before .before .before .before .before .before .before .before .before .if4 .left) _ _ (c .before .before .before .before .before .before .before .before .before .before .place .ensures) (c .before .before .before .before .before .falls-within .ensures .0) (not-true _ (c .if5 .taken))
+stands-within-returns-5 t c =
+    let args = c .before .before .before .before .before .before .before .before .before .before .before .before .before .before .before .before .before .before .before .before .before .before .before .before .before .before .before .before .before .args in
+    let pre = c .before .before .before .before .before .before .before .before .before .before .before .before .before .before .before .before .before .before .before .before .before .before .before .before .before .before .before .before .before .pre in
+    let loop = c .before .before .before .before .before .before .before .before .before .before .before .before .before .before .loop in
+    let loop-test = c .before .before .before .before .before .before .before .before .before .before .before .before .before .loop-test in
+    let if4 = c .before .before .before .before .before .before .before .before .before .before .before .before .if4 in
+    let place = c .before .before .before .before .before .before .before .before .before .before .place in
+    let falls-within = c .before .before .before .before .before .falls-within in
+    stands-lost (args .x) (args .turns) (pre .1 .0) (falls-within .ensures .1) (loop .c) (loop .inv .0) (loop-test .taken)
+    (if4 .left) _ _ (place .ensures) (falls-within .ensures .0) (not-true _ (c .if5 .taken))
 
 stands-within-loop-less : (t : ℕ) → stands-within-lts.Need-loop-less (
   wide-reads.Asked,
@@ -654,7 +787,13 @@ stands-within-loop-less : (t : ℕ) → stands-within-lts.Need-loop-less (
   falls-within-below t,
   falls-within.Post,
 ) (stands-within-at t) stands-within.Post stands-within-Inv-loop stands-within-μ-loop
-stands-within-loop-less t c = lower (c .before .before .before .before .before .before .before .before .before .before .before .before .before .before .before .before .before .before .before .before .before .before .before .before .before .before .before .before .before .args .x) (c .before .before .before .before .before .before .before .before .before .before .before .before .before .before .before .before .before .before .before .before .before .before .before .before .before .before .before .before .before .args .turns) (c .before .before .before .before .before .before .before .before .before .before .before .before .before .before .before .before .before .before .before .before .before .before .before .before .before .before .before .before .before .pre .1 .0) _ (c .before .before .before .before .before .before .before .before .before .before .before .before .before .before .loop .c) (c .before .before .before .before .before .before .before .before .before .before .before .before .before .before .loop .inv .0) (c .before .before .before .before .before .before .before .before .before .before .before .before .before .loop-test .taken) _ (c .before .before .before .before .before .before .before .before .wide2 .ensures)
+stands-within-loop-less t c =
+    let args = c .before .before .before .before .before .before .before .before .before .before .before .before .before .before .before .before .before .before .before .before .before .before .before .before .before .before .before .before .before .args in
+    let pre = c .before .before .before .before .before .before .before .before .before .before .before .before .before .before .before .before .before .before .before .before .before .before .before .before .before .before .before .before .before .pre in
+    let loop = c .before .before .before .before .before .before .before .before .before .before .before .before .before .before .loop in
+    let loop-test = c .before .before .before .before .before .before .before .before .before .before .before .before .before .loop-test in
+    let wide2 = c .before .before .before .before .before .before .before .before .wide2 in
+    lower (args .x) (args .turns) (pre .1 .0) _ (loop .c) (loop .inv .0) (loop-test .taken) _ (wide2 .ensures)
 
 stands-within-loop-again : (t : ℕ) → stands-within-lts.Need-loop-again (
   wide-reads.Asked,
@@ -664,7 +803,17 @@ stands-within-loop-again : (t : ℕ) → stands-within-lts.Need-loop-again (
   falls-within-below t,
   falls-within.Post,
 ) (stands-within-at t) stands-within.Post stands-within-Inv-loop stands-within-μ-loop
-stands-within-loop-again t c = stands-goes-on (c .before .before .before .before .before .before .before .before .before .before .before .before .before .before .before .before .before .before .before .before .before .before .before .before .before .before .before .before .before .args .x) (c .before .before .before .before .before .before .before .before .before .before .before .before .before .before .before .before .before .before .before .before .before .before .before .before .before .before .before .before .before .args .turns) (c .before .before .before .before .before .before .before .before .before .before .before .before .before .before .before .before .before .before .before .before .before .before .before .before .before .before .before .before .before .pre .1 .0) (c .before .before .before .before .before .falls-within .ensures .1) (c .before .before .before .before .before .before .before .before .before .before .before .before .before .before .loop .c) (c .before .before .before .before .before .before .before .before .before .before .before .before .before .before .loop .inv .0) (c .before .before .before .before .before .before .before .before .before .before .before .before .before .loop-test .taken) (c .before .before .before .before .before .before .before .before .before .before .before .before .if4 .left) _ _ (c .before .before .before .before .before .before .before .before .before .before .place .ensures) (c .before .before .before .before .before .falls-within .ensures .0) (not-false _ (c .if5 .left)) _ (c .before .before .before .before .before .before .before .before .wide2 .ensures)
+stands-within-loop-again t c =
+    let args = c .before .before .before .before .before .before .before .before .before .before .before .before .before .before .before .before .before .before .before .before .before .before .before .before .before .before .before .before .before .args in
+    let pre = c .before .before .before .before .before .before .before .before .before .before .before .before .before .before .before .before .before .before .before .before .before .before .before .before .before .before .before .before .before .pre in
+    let loop = c .before .before .before .before .before .before .before .before .before .before .before .before .before .before .loop in
+    let loop-test = c .before .before .before .before .before .before .before .before .before .before .before .before .before .loop-test in
+    let if4 = c .before .before .before .before .before .before .before .before .before .before .before .before .if4 in
+    let place = c .before .before .before .before .before .before .before .before .before .before .place in
+    let wide2 = c .before .before .before .before .before .before .before .before .wide2 in
+    let falls-within = c .before .before .before .before .before .falls-within in
+    stands-goes-on (args .x) (args .turns) (pre .1 .0) (falls-within .ensures .1) (loop .c) (loop .inv .0) (loop-test .taken)
+    (if4 .left) _ _ (place .ensures) (falls-within .ensures .0) (not-false _ (c .if5 .left)) _ (wide2 .ensures)
 
 stands-within-slice-write-stands-2 : (t : ℕ) → stands-within-lts.Need-slice-write-stands-2 (
   wide-reads.Asked,
@@ -674,7 +823,10 @@ stands-within-slice-write-stands-2 : (t : ℕ) → stands-within-lts.Need-slice-
   falls-within-below t,
   falls-within.Post,
 ) (stands-within-at t) stands-within.Post stands-within-Inv-loop stands-within-μ-loop
-stands-within-slice-write-stands-2 t c = stands-slot (c .before .before .before .before .before .before .before .before .before .before .before .before .before .before .before .before .args .x) (c .before .before .before .before .before .before .before .before .before .before .before .before .before .before .before .before .args .turns) (c .before .before .before .before .before .before .before .before .before .before .before .before .before .before .before .before .pre .1 .0) (c .before .loop .inv .1)
+stands-within-slice-write-stands-2 t c =
+    let args = c .before .before .before .before .before .before .before .before .before .before .before .before .before .before .before .before .args in
+    let pre = c .before .before .before .before .before .before .before .before .before .before .before .before .before .before .before .before .pre in
+    stands-slot (args .x) (args .turns) (pre .1 .0) (c .before .loop .inv .1)
 
 stands-within-same-length-5 : (t : ℕ) → stands-within-lts.Need-same-length-5 (
   wide-reads.Asked,
@@ -684,7 +836,9 @@ stands-within-same-length-5 : (t : ℕ) → stands-within-lts.Need-same-length-5
   falls-within-below t,
   falls-within.Post,
 ) (stands-within-at t) stands-within.Post stands-within-Inv-loop stands-within-μ-loop
-stands-within-same-length-5 t c = same-room _ _ _ (c .before .loop .inv .1 .fell) (c .before .before .before .before .before .before .before .before .before .before .before .before .before .before .before .before .pre .1 .1 .fell)
+stands-within-same-length-5 t c =
+    let pre = c .before .before .before .before .before .before .before .before .before .before .before .before .before .before .before .before .pre in
+    same-room _ _ _ (c .before .loop .inv .1 .fell) (pre .1 .1 .fell)
 
 stands-within-same-length-6 : (t : ℕ) → stands-within-lts.Need-same-length-6 (
   wide-reads.Asked,
@@ -694,7 +848,9 @@ stands-within-same-length-6 : (t : ℕ) → stands-within-lts.Need-same-length-6
   falls-within-below t,
   falls-within.Post,
 ) (stands-within-at t) stands-within.Post stands-within-Inv-loop stands-within-μ-loop
-stands-within-same-length-6 t c = set-room _ _ _ _ _ (c .before .loop .inv .1 .stood) (c .before .before .before .before .before .before .before .before .before .before .before .before .before .before .before .before .pre .1 .1 .stood)
+stands-within-same-length-6 t c =
+    let pre = c .before .before .before .before .before .before .before .before .before .before .before .before .before .before .before .before .pre in
+    set-room _ _ _ _ _ (c .before .loop .inv .1 .stood) (pre .1 .1 .stood)
 
 stands-within-returns-6 : (t : ℕ) → stands-within-lts.Need-returns-6 (
   wide-reads.Asked,
@@ -704,7 +860,12 @@ stands-within-returns-6 : (t : ℕ) → stands-within-lts.Need-returns-6 (
   falls-within-below t,
   falls-within.Post,
 ) (stands-within-at t) stands-within.Post stands-within-Inv-loop stands-within-μ-loop
-stands-within-returns-6 t c = stands-ends (c .before .before .before .before .before .before .before .before .before .before .before .before .before .before .before .before .args .x) (c .before .before .before .before .before .before .before .before .before .before .before .before .before .before .before .before .args .turns) (c .before .before .before .before .before .before .before .before .before .before .before .before .before .before .before .before .pre .1 .0) (c .before .loop .inv .1) (c .before .loop .c) (c .before .loop .inv .0) (c .before .before .before .before .before .before .before .if1 .left) (c .loop-test .left)
+stands-within-returns-6 t c =
+    let args = c .before .before .before .before .before .before .before .before .before .before .before .before .before .before .before .before .args in
+    let pre = c .before .before .before .before .before .before .before .before .before .before .before .before .before .before .before .before .pre in
+    let if1 = c .before .before .before .before .before .before .before .if1 in
+    stands-ends (args .x) (args .turns) (pre .1 .0) (c .before .loop .inv .1) (c .before .loop .c) (c .before .loop .inv .0)
+    (if1 .left) (c .loop-test .left)
 
 pub +falls-within+stands-within-spec : {M : Type 1} → statement M
 +falls-within+stands-within-spec =

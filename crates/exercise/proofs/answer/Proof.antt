@@ -15,7 +15,22 @@ slice-aggregate-chain-2 : tie.Need-slice-aggregate-chain-2
 slice-aggregate-chain-2 c = search needs
 
 chain-requires : tie.Need-chain-requires
-chain-requires c κs = ((omega (arith, c .before .before .before .before .before .pre .0 .few-pairs, c .before .before .before .before .before .pre .0 .order .paired), omega (arith, c .before .before .before .before .before .pre .0 .few-pairs, c .before .before .before .before .before .pre .0 .order .paired), search needs), (λ e h. omega (arith, c .before .before .before .before .before .pre .0 .order .target e (omega (arith, c .before .before .before .before .before .pre .0 .order .paired)), c .before .before .before .before .before .pre .0 .few-marks), λ x. all-zero 1024 x))
+chain-requires c κs =
+    let pre = c .before .before .before .before .before .pre in (
+      (
+        omega (arith, pre .0 .few-pairs, pre .0 .order .paired),
+        omega (arith, pre .0 .few-pairs, pre .0 .order .paired),
+        search needs,
+      ),
+      (
+        λ e h. omega (
+          arith,
+          pre .0 .order .target e (omega (arith, pre .0 .order .paired)),
+          pre .0 .few-marks,
+        ),
+        λ x. all-zero 1024 x,
+      ),
+    )
 
 slice-aggregate-falls-within : tie.Need-slice-aggregate-falls-within
 slice-aggregate-falls-within c = search needs
@@ -30,7 +45,12 @@ slice-aggregate-falls-within-4 : tie.Need-slice-aggregate-falls-within-4
 slice-aggregate-falls-within-4 c = search needs
 
 falls-within-requires : tie.Need-falls-within-requires
-falls-within-requires c κs = ((record { handed = c .before .before .before .before .before .before .before .before .before .before .before .before .pre .0; chained = c .before .before .before .before .before .before .chain .ensures; head-room = search needs; next-room = search needs }, c .before .before .before .before .before .before .before .before .before .before .before .before .pre .1, c .before .before .before .before .before .before .before .before .before .before .before .before .pre .2), fresh-both _)
+falls-within-requires c κs =
+    let pre = c .before .before .before .before .before .before .before .before .before .before .before .before .pre in
+    let chain = c .before .before .before .before .before .before .chain in (
+      (record { handed = pre .0; chained = chain .ensures; head-room = search needs; next-room = search needs }, pre .1, pre .2),
+      fresh-both _,
+    )
 
 returns : tie.Need-returns
 returns c = answers-falls _ _ _ (sym (c .before .before .before .falls-within .ensures .0) ∙ c .if1 .taken)
@@ -48,13 +68,23 @@ slice-aggregate-stands-within-4 : tie.Need-slice-aggregate-stands-within-4
 slice-aggregate-stands-within-4 c = search needs
 
 stands-within-requires : tie.Need-stands-within-requires
-stands-within-requires c κs = ((record { handed = c .before .before .before .before .before .before .before .before .before .before .before .before .before .before .before .before .before .before .before .before .pre .0; chained = c .before .before .before .before .before .before .before .before .before .before .before .before .before .before .chain .ensures; head-room = search needs; next-room = search needs }, c .before .before .before .before .before .before .before .before .before .before .before .before .before .before .before .before .before .before .before .before .pre .1, c .before .before .before .before .before .before .before .before .before .before .before .before .before .before .before .before .before .before .before .before .pre .2), c .before .before .before .before .before .before .before .falls-within .ensures .1)
+stands-within-requires c κs =
+    let pre = c .before .before .before .before .before .before .before .before .before .before .before .before .before .before .before .before .before .before .before .before .pre in
+    let chain = c .before .before .before .before .before .before .before .before .before .before .before .before .before .before .chain in
+    let falls-within = c .before .before .before .before .before .before .before .falls-within in (
+      (record { handed = pre .0; chained = chain .ensures; head-room = search needs; next-room = search needs }, pre .1, pre .2),
+      falls-within .ensures .1,
+    )
 
 returns-2 : tie.Need-returns-2
 returns-2 c = answers-stands _ _ _ (sym (c .before .before .before .stands-within .ensures .0) ∙ c .if2 .taken)
 
 returns-3 : tie.Need-returns-3
-returns-3 c = answers-neither _ _ _ (sym (c .before .before .before .before .before .before .before .before .before .before .before .falls-within .ensures .0) ∙ c .before .before .before .before .before .before .before .before .if1 .left) (sym (c .before .before .before .stands-within .ensures .0) ∙ c .if2 .left)
+returns-3 c =
+    let falls-within = c .before .before .before .before .before .before .before .before .before .before .before .falls-within in
+    let if1 = c .before .before .before .before .before .before .before .before .if1 in
+    answers-neither _ _ _ (sym (falls-within .ensures .0) ∙ if1 .left)
+    (sym (c .before .before .before .stands-within .ensures .0) ∙ c .if2 .left)
 
 pub answer-spec : {M : Type 1} → statement M
 answer-spec =

@@ -12,16 +12,23 @@ slot-of-requires : tie.Need-slot-of-requires
 slot-of-requires c κs = search needs
 
 mul-wide : tie.Need-mul-wide
-mul-wide c = omega (arith, c .slot-of .ensures, slot-low (c .before .before .args .rest) (c .before .before .args .node), c .before .before .pre .1)
+mul-wide c =
+    let args = c .before .before .args in
+    omega (arith, c .slot-of .ensures, slot-low (args .rest) (args .node), c .before .before .pre .1)
 
 shared-slice-read-wide : tie.Need-shared-slice-read-wide
-shared-slice-read-wide c = omega (arith, c .before .slot-of .ensures, slot-low (c .before .before .before .args .rest) (c .before .before .before .args .node), c .before .before .before .pre .0, c .before .before .before .pre .1)
+shared-slice-read-wide c =
+    let args = c .before .before .before .args in
+    let pre = c .before .before .before .pre in
+    omega (arith, c .before .slot-of .ensures, slot-low (args .rest) (args .node), pre .0, pre .1)
 
 wide-requires : tie.Need-wide-requires
 wide-requires c κs = search needs
 
 returns : tie.Need-returns
-returns c = c .wide .ensures ∙ ap (λ (s : ℕ). getD (c .before .before .before .before .args .links .now) s 0) (c .before .before .slot-of .ensures)
+returns c =
+    c .wide .ensures ∙ ap (λ (s : ℕ). getD (c .before .before .before .before .args .links .now) s 0)
+    (c .before .before .slot-of .ensures)
 
 pub below-spec : {M : Type 1} → statement M
 below-spec =

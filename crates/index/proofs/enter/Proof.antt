@@ -22,10 +22,14 @@ cast-links : tie.Need-cast-links
 cast-links c = search needs
 
 mul-links : tie.Need-mul-links
-mul-links c = omega (arith, slot-within _ _ _ _ _ (c .before .before .before .before .before .pre .0) (c .before .before .before .before .before .pre .1) (c .free-slot .ensures), c .before .before .before .before .before .pre .0 .links-room)
+mul-links c =
+    let pre = c .before .before .before .before .before .pre in
+    omega (arith, slot-within _ _ _ _ _ (pre .0) (pre .1) (c .free-slot .ensures), pre .0 .links-room)
 
 slice-write-links : tie.Need-slice-write-links
-slice-write-links c = slot-within _ _ _ _ _ (c .before .before .before .before .before .pre .0) (c .before .before .before .before .before .pre .1) (c .free-slot .ensures)
+slice-write-links c =
+    let pre = c .before .before .before .before .before .pre in
+    slot-within _ _ _ _ _ (pre .0) (pre .1) (c .free-slot .ensures)
 
 same-length : tie.Need-same-length
 same-length c = search needs
@@ -34,7 +38,9 @@ same-length-2 : tie.Need-same-length-2
 same-length-2 c = search needs
 
 returns : tie.Need-returns
-returns c = (refl, indexed-more _ _ _ _ _ (c .before .before .before .before .before .pre .0) (c .before .before .before .before .before .pre .1) (c .free-slot .ensures))
+returns c =
+    let pre = c .before .before .before .before .before .pre in
+    (refl, indexed-more _ _ _ _ _ (pre .0) (pre .1) (c .free-slot .ensures))
 
 pub enter-spec : {M : Type 1} → statement M
 enter-spec =

@@ -18,16 +18,29 @@ loop-holds : tie.Need-loop-holds Inv-loop μ-loop
 loop-holds c = walk-begins _ _ _ _ (c .below .ensures)
 
 below-requires-2 : tie.Need-below-requires-2 Inv-loop μ-loop
-below-requires-2 c κs = (c .before .before .before .before .before .pre .links-room, omega (arith, link-low _ _ _ (c .before .before .before .before .before .pre) _ _ _ (c .before .loop .inv .1), c .before .before .before .before .before .pre .few))
+below-requires-2 c κs =
+    let pre = c .before .before .before .before .before .pre in
+    (pre .links-room, omega (arith, link-low _ _ _ pre _ _ _ (c .before .loop .inv .1), pre .few))
 
 loop-less : tie.Need-loop-less Inv-loop μ-loop
-loop-less c = omega (arith, link-later _ _ _ (c .before .before .before .before .before .before .pre) _ _ _ (c .before .before .loop .inv .1) (c .before .loop-test .taken), link-low _ _ _ (c .before .before .before .before .before .before .pre) _ _ _ (c .before .before .loop .inv .1))
+loop-less c =
+    let pre = c .before .before .before .before .before .before .pre in
+    let loop = c .before .before .loop in
+    omega (
+      arith,
+      link-later _ _ _ pre _ _ _ (loop .inv .1) (c .before .loop-test .taken),
+      link-low _ _ _ pre _ _ _ (loop .inv .1),
+    )
 
 loop-again : tie.Need-loop-again Inv-loop μ-loop
-loop-again c = walk-more _ _ _ (c .before .before .before .before .before .before .pre) _ _ _ _ _ (c .before .before .loop .inv) (c .before .loop-test .taken) (c .below2 .ensures)
+loop-again c =
+    let pre = c .before .before .before .before .before .before .pre in
+    walk-more _ _ _ pre _ _ _ _ _ (c .before .before .loop .inv) (c .before .loop-test .taken) (c .below2 .ensures)
 
 slot-of-requires : tie.Need-slot-of-requires Inv-loop μ-loop
-slot-of-requires c κs = omega (arith, c .before .loop .inv .0, c .before .before .before .before .before .pre .few)
+slot-of-requires c κs =
+    let pre = c .before .before .before .before .before .pre in
+    omega (arith, c .before .loop .inv .0, pre .few)
 
 returns : tie.Need-returns Inv-loop μ-loop
 returns c = walk-ends _ _ _ _ _ _ _ (c .before .before .loop .inv) (c .before .loop-test .left) (c .slot-of .ensures)

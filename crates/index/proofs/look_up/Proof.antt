@@ -20,28 +20,45 @@ sub-if1 : tie.Need-sub-if1 Inv-loop μ-loop
 sub-if1 c = omega (arith, c .loop-test .taken)
 
 mul-if1 : tie.Need-mul-if1 Inv-loop μ-loop
-mul-if1 c = omega (arith, c .before .loop .inv .0, c .before .before .before .before .before .pre .few)
+mul-if1 c =
+    let pre = c .before .before .before .before .before .pre in
+    omega (arith, c .before .loop .inv .0, pre .few)
 
 shared-slice-read-if1 : tie.Need-shared-slice-read-if1 Inv-loop μ-loop
-shared-slice-read-if1 c = omega (arith, c .before .loop-test .taken, c .before .before .loop .inv .0, c .before .before .before .before .before .before .pre .within)
+shared-slice-read-if1 c =
+    let pre = c .before .before .before .before .before .before .pre in
+    omega (arith, c .before .loop-test .taken, c .before .before .loop .inv .0, pre .within)
 
 sub-result : tie.Need-sub-result Inv-loop μ-loop
 sub-result c = omega (arith, c .before .before .loop-test .taken)
 
 returns : tie.Need-returns Inv-loop μ-loop
-returns c = seek-found _ _ _ (c .before .before .before .before .before .before .before .pre) _ _ (omega (arith, c .before .before .loop-test .taken, c .before .before .before .loop .inv .0)) (c .if1 .taken)
+returns c =
+    let pre = c .before .before .before .before .before .before .before .pre in
+    seek-found _ _ _ pre _ _ (omega (arith, c .before .before .loop-test .taken, c .before .before .before .loop .inv .0))
+    (c .if1 .taken)
 
 below-requires-2 : tie.Need-below-requires-2 Inv-loop μ-loop
-below-requires-2 c κs = (c .before .before .before .before .before .before .before .pre .links-room, omega (arith, c .before .before .before .loop .inv .0, c .before .before .before .before .before .before .before .pre .few))
+below-requires-2 c κs =
+    let pre = c .before .before .before .before .before .before .before .pre in
+    (pre .links-room, omega (arith, c .before .before .before .loop .inv .0, pre .few))
 
 loop-less : tie.Need-loop-less Inv-loop μ-loop
-loop-less c = left-less _ _ _ (c .before .before .before .before .before .before .before .before .pre) _ _ _ (c .before .before .before .before .loop .inv .0) (c .before .before .before .loop-test .taken) (c .below2 .ensures)
+loop-less c =
+    let pre = c .before .before .before .before .before .before .before .before .pre in
+    left-less _ _ _ pre _ _ _ (c .before .before .before .before .loop .inv .0) (c .before .before .before .loop-test .taken)
+    (c .below2 .ensures)
 
 loop-again : tie.Need-loop-again Inv-loop μ-loop
-loop-again c = seek-more _ _ _ (c .before .before .before .before .before .before .before .before .pre) _ _ _ _ (c .before .before .before .before .loop .inv) (c .before .before .before .loop-test .taken) (c .before .if1 .left) (c .below2 .ensures)
+loop-again c =
+    let pre = c .before .before .before .before .before .before .before .before .pre in
+    seek-more _ _ _ pre _ _ _ _ (c .before .before .before .before .loop .inv) (c .before .before .before .loop-test .taken)
+    (c .before .if1 .left) (c .below2 .ensures)
 
 returns-2 : tie.Need-returns-2 Inv-loop μ-loop
-returns-2 c = seek-ends _ _ _ (c .before .before .before .before .before .pre) _ _ _ (c .before .loop .inv) (c .loop-test .left)
+returns-2 c =
+    let pre = c .before .before .before .before .before .pre in
+    seek-ends _ _ _ pre _ _ _ (c .before .loop .inv) (c .loop-test .left)
 
 pub look-up-spec : {M : Type 1} → statement M
 look-up-spec =

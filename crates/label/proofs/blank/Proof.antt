@@ -11,7 +11,9 @@ use Rattle.label.proofs.blank.Statement.{statement}
 use Rattle.label.proofs.blank.Tie as tie
 
 abbrev Inv-loop : tie.InvT-loop
-Inv-loop marks labels₀ lengths₀ i₀ labels lengths i = (i ≤ length marks) × (length labels ≡ length labels₀) × (length lengths ≡ length lengths₀) × ((x : ℕ) → x < i → getD labels x 0 ≡ 0) × ((x : ℕ) → x < i → getD lengths x 0 ≡ 65535)
+Inv-loop marks labels₀ lengths₀ i₀ labels lengths i =
+    (i ≤ length marks) × (length labels ≡ length labels₀) × (length lengths ≡ length lengths₀)
+    × ((x : ℕ) → x < i → getD labels x 0 ≡ 0) × ((x : ℕ) → x < i → getD lengths x 0 ≡ 65535)
 
 abbrev μ-loop : tie.MeasureT-loop
 μ-loop marks labels₀ lengths₀ i₀ labels lengths i = length marks - i
@@ -39,8 +41,10 @@ loop-again c = (
   search needs,
   simp length-set (search needs),
   simp length-set (search needs),
-  below-more _ _ (λ x h. getD-set-other (c .before .loop .labels) _ x 0 0 (below-ne h) ∙ c .before .loop .inv .3 x h) (getD-set-same (c .before .loop .labels) _ 0 0 (slice-write-labels c)),
-  below-more _ _ (λ x h. getD-set-other (c .before .loop .lengths) _ x 65535 0 (below-ne h) ∙ c .before .loop .inv .4 x h) (getD-set-same (c .before .loop .lengths) _ 65535 0 (slice-write-lengths c)),
+  below-more _ _ (λ x h. getD-set-other (c .before .loop .labels) _ x 0 0 (below-ne h) ∙ c .before .loop .inv .3 x h)
+      (getD-set-same (c .before .loop .labels) _ 0 0 (slice-write-labels c)),
+  below-more _ _ (λ x h. getD-set-other (c .before .loop .lengths) _ x 65535 0 (below-ne h) ∙ c .before .loop .inv .4 x h)
+      (getD-set-same (c .before .loop .lengths) _ 65535 0 (slice-write-lengths c)),
 )
 
 same-length : tie.Need-same-length Inv-loop μ-loop
@@ -50,7 +54,11 @@ same-length-2 : tie.Need-same-length-2 Inv-loop μ-loop
 same-length-2 c = search needs
 
 returns : tie.Need-returns Inv-loop μ-loop
-returns c = record { no-label = λ x h. c .before .loop .inv .3 x (omega arith); no-length = λ x h. c .before .loop .inv .4 x (omega arith) }
+returns c =
+    record {
+      no-label = λ x h. c .before .loop .inv .3 x (omega arith);
+      no-length = λ x h. c .before .loop .inv .4 x (omega arith);
+    }
 
 pub blank-spec : {M : Type 1} → statement M
 blank-spec =

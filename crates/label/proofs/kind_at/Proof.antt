@@ -24,22 +24,55 @@ place-requires-2 : tie.Need-place-requires-2
 place-requires-2 c κs = search needs
 
 shared-slice-read-kind-of : tie.Need-shared-slice-read-kind-of
-shared-slice-read-kind-of c = omega (arith, target-place _ _ _ _ _ (c .before .before .before .before .before .before .before .before .before .before .pre .0) (c .before .before .before .before .before .before .before .before .before .before .pre .1 .1) _ _ _ (c .before .before .before .before .before .before .before .before .before .before .pre .1 .0 .2) (c .before .before .before .place .ensures) (c .before .place2 .ensures))
+shared-slice-read-kind-of c =
+    let pre = c .before .before .before .before .before .before .before .before .before .before .pre in
+    omega (
+      arith,
+      target-place _ _ _ _ _ (pre .0) (pre .1 .1) _ _ _ (pre .1 .0 .2) (c .before .before .before .place .ensures)
+          (c .before .place2 .ensures),
+    )
 
 shared-slice-read-kind-of-2 : tie.Need-shared-slice-read-kind-of-2
-shared-slice-read-kind-of-2 c = omega (arith, objector-place _ _ _ _ _ (c .before .before .before .before .before .before .before .before .before .before .before .pre .0) (c .before .before .before .before .before .before .before .before .before .before .before .pre .1 .1) _ _ _ (c .before .before .before .before .before .before .before .before .before .before .before .pre .1 .0 .2) (c .before .before .before .before .place .ensures) (c .before .before .place2 .ensures))
+shared-slice-read-kind-of-2 c =
+    let pre = c .before .before .before .before .before .before .before .before .before .before .before .pre in
+    omega (
+      arith,
+      objector-place _ _ _ _ _ (pre .0) (pre .1 .1) _ _ _ (pre .1 .0 .2)
+          (c .before .before .before .before .place .ensures) (c .before .before .place2 .ensures),
+    )
 
 mul-kind-of : tie.Need-mul-kind-of
-mul-kind-of c = omega (arith, objector-place _ _ _ _ _ (c .before .before .before .before .before .before .before .before .before .before .before .pre .0) (c .before .before .before .before .before .before .before .before .before .before .before .pre .1 .1) _ _ _ (c .before .before .before .before .before .before .before .before .before .before .before .pre .1 .0 .2) (c .before .before .before .before .place .ensures) (c .before .before .place2 .ensures), c .before .before .before .before .before .before .before .before .before .before .before .pre .0 .few-marks)
+mul-kind-of c =
+    let pre = c .before .before .before .before .before .before .before .before .before .before .before .pre in
+    omega (
+      arith,
+      objector-place _ _ _ _ _ (pre .0) (pre .1 .1) _ _ _ (pre .1 .0 .2)
+          (c .before .before .before .before .place .ensures) (c .before .before .place2 .ensures),
+      pre .0 .few-marks,
+    )
 
 shared-slice-read-kind-of-3 : tie.Need-shared-slice-read-kind-of-3
-shared-slice-read-kind-of-3 c = omega (arith, objector-place _ _ _ _ _ (c .before .before .before .before .before .before .before .before .before .before .before .before .pre .0) (c .before .before .before .before .before .before .before .before .before .before .before .before .pre .1 .1) _ _ _ (c .before .before .before .before .before .before .before .before .before .before .before .before .pre .1 .0 .2) (c .before .before .before .before .before .place .ensures) (c .before .before .before .place2 .ensures))
+shared-slice-read-kind-of-3 c =
+    let pre = c .before .before .before .before .before .before .before .before .before .before .before .before .pre in
+    let place = c .before .before .before .before .before .place in
+    omega (
+      arith,
+      objector-place _ _ _ _ _ (pre .0) (pre .1 .1) _ _ _ (pre .1 .0 .2) (place .ensures)
+          (c .before .before .before .place2 .ensures),
+    )
 
 kind-of-requires : tie.Need-kind-of-requires
-kind-of-requires c κs = ends _ _ _ _ _ (c .before .before .before .before .before .before .before .before .before .before .before .before .pre .0) (c .before .before .before .before .before .before .before .before .before .before .before .before .pre .1 .1) _ _ _ (c .before .before .before .before .before .before .before .before .before .before .before .before .pre .1 .0 .2) (c .before .before .before .before .before .place .ensures) (c .before .before .before .place2 .ensures)
+kind-of-requires c κs =
+    let pre = c .before .before .before .before .before .before .before .before .before .before .before .before .pre in
+    let place = c .before .before .before .before .before .place in
+    ends _ _ _ _ _ (pre .0) (pre .1 .1) _ _ _ (pre .1 .0 .2) (place .ensures) (c .before .before .before .place2 .ensures)
 
 returns : tie.Need-returns
-returns c = kind-of-entry _ _ _ _ _ (c .before .before .before .before .before .before .before .before .before .before .before .before .before .pre .0) (c .before .before .before .before .before .before .before .before .before .before .before .before .before .pre .1 .1) _ _ _ (c .before .before .before .before .before .before .before .before .before .before .before .before .before .pre .1 .0 .2) (c .before .before .before .before .before .before .place .ensures) (c .before .before .before .before .place2 .ensures) _ (c .kind-of .ensures)
+returns c =
+    let pre = c .before .before .before .before .before .before .before .before .before .before .before .before .before .pre in
+    let place = c .before .before .before .before .before .before .place in
+    kind-of-entry _ _ _ _ _ (pre .0) (pre .1 .1) _ _ _ (pre .1 .0 .2) (place .ensures)
+    (c .before .before .before .before .place2 .ensures) _ (c .kind-of .ensures)
 
 pub kind-at-spec : {M : Type 1} → statement M
 kind-at-spec =

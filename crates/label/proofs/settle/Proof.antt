@@ -14,14 +14,19 @@ slice-aggregate-chain-2 : tie.Need-slice-aggregate-chain-2
 slice-aggregate-chain-2 c = search needs
 
 chain-requires : tie.Need-chain-requires
-chain-requires c κs = ((c .before .before .before .before .before .before .before .pre .0 .few-pairs, omega (arith, c .before .before .before .before .before .before .before .pre .0 .few-pairs), search needs), (λ e h. omega (arith, c .before .before .before .before .before .before .before .pre .0 .order .objector e h, c .before .before .before .before .before .before .before .pre .0 .few-marks), λ x. all-zero 1024 x))
+chain-requires c κs =
+    let pre = c .before .before .before .before .before .before .before .pre in (
+      (pre .0 .few-pairs, omega (arith, pre .0 .few-pairs), search needs),
+      (λ e h. omega (arith, pre .0 .order .objector e h, pre .0 .few-marks), λ x. all-zero 1024 x),
+    )
 
 slice-aggregate-count : tie.Need-slice-aggregate-count
 slice-aggregate-count c = search needs
 
 count-requires : tie.Need-count-requires
 count-requires c κs =
-    (c .before .before .before .before .before .before .before .before .before .before .before .pre .0, (omega (arith, c .before .before .before .before .before .before .before .before .before .before .before .pre .0 .few-marks), λ x h. getD-replicate 1024 x 0 0 (omega (arith, c .before .before .before .before .before .before .before .before .before .before .before .pre .0 .few-marks))))
+    let pre = c .before .before .before .before .before .before .before .before .before .before .before .pre in
+    (pre .0, (omega (arith, pre .0 .few-marks), λ x h. getD-replicate 1024 x 0 0 (omega (arith, pre .0 .few-marks))))
 
 blank-requires : tie.Need-blank-requires
 blank-requires c κs = search needs
@@ -36,8 +41,31 @@ start-requires : tie.Need-start-requires
 start-requires c κs = (
   c .before .before .before .before .before .before .before .before .before .before .before .before .before .before .before .before .before .before .before .before .before .before .before .before .pre .0,
   (
-    record { labels-room = c .before .before .before .before .before .before .before .before .blank .kept .1 .0 ∙ c .before .before .before .before .before .before .before .before .before .before .before .before .before .before .before .before .before .before .before .before .before .before .before .before .pre .1 .labels-room; lengths-room = c .before .before .before .before .before .before .before .before .blank .kept .1 .1 .0 ∙ c .before .before .before .before .before .before .before .before .before .before .before .before .before .before .before .before .before .before .before .before .before .before .before .before .pre .1 .lengths-room },
-    ((omega (arith, c .before .before .before .before .before .before .before .before .before .before .before .before .count .kept .1 .1 .1 .0, c .before .before .before .before .before .before .before .before .before .before .before .before .before .before .before .before .before .before .before .before .before .before .before .before .pre .0 .few-marks), omega (arith, c .before .before .before .before .before .before .before .before .before .before .before .before .before .before .before .before .before .before .before .before .before .before .before .before .pre .0 .few-marks)), (c .before .before .before .before .before .before .before .before .before .before .before .before .count .ensures, c .before .before .before .before .before .before .before .before .blank .ensures)),
+    record {
+      labels-room = c .before .before .before .before .before .before .before .before .blank .kept .1 .0
+          ∙
+          c .before .before .before .before .before .before .before .before .before .before .before .before .before .before .before .before .before .before .before .before .before .before .before .before .pre .1 .labels-room;
+      lengths-room = c .before .before .before .before .before .before .before .before .blank .kept .1 .1 .0
+          ∙
+          c .before .before .before .before .before .before .before .before .before .before .before .before .before .before .before .before .before .before .before .before .before .before .before .before .pre .1 .lengths-room;
+    },
+    (
+      (
+        omega (
+          arith,
+          c .before .before .before .before .before .before .before .before .before .before .before .before .count .kept .1 .1 .1 .0,
+          c .before .before .before .before .before .before .before .before .before .before .before .before .before .before .before .before .before .before .before .before .before .before .before .before .pre .0 .few-marks,
+        ),
+        omega (
+          arith,
+          c .before .before .before .before .before .before .before .before .before .before .before .before .before .before .before .before .before .before .before .before .before .before .before .before .pre .0 .few-marks,
+        ),
+      ),
+      (
+        c .before .before .before .before .before .before .before .before .before .before .before .before .count .ensures,
+        c .before .before .before .before .before .before .before .before .blank .ensures,
+      ),
+    ),
   ),
 )
 
@@ -57,10 +85,47 @@ run-requires : tie.Need-run-requires
 run-requires c κs = (
   c .before .before .before .before .before .before .before .before .before .before .before .before .before .before .before .before .before .before .before .before .before .before .before .before .before .before .before .before .before .before .before .before .before .before .before .before .pre .0,
   (
-    record { labels-room = c .before .before .before .before .before .before .before .before .before .before .before .start .kept .1 .1 .1 .1 .0 ∙ c .before .before .before .before .before .before .before .before .before .before .before .before .before .before .before .before .before .before .before .before .blank .kept .1 .0 ∙ c .before .before .before .before .before .before .before .before .before .before .before .before .before .before .before .before .before .before .before .before .before .before .before .before .before .before .before .before .before .before .before .before .before .before .before .before .pre .1 .labels-room; lengths-room = c .before .before .before .before .before .before .before .before .before .before .before .start .kept .1 .1 .1 .1 .1 .0 ∙ c .before .before .before .before .before .before .before .before .before .before .before .before .before .before .before .before .before .before .before .before .blank .kept .1 .1 .0 ∙ c .before .before .before .before .before .before .before .before .before .before .before .before .before .before .before .before .before .before .before .before .before .before .before .before .before .before .before .before .before .before .before .before .before .before .before .before .pre .1 .lengths-room },
+    record {
+      labels-room =
+          c .before .before .before .before .before .before .before .before .before .before .before .start .kept .1 .1 .1 .1 .0
+          ∙
+          c .before .before .before .before .before .before .before .before .before .before .before .before .before .before .before .before .before .before .before .before .blank .kept .1 .0
+          ∙
+          c .before .before .before .before .before .before .before .before .before .before .before .before .before .before .before .before .before .before .before .before .before .before .before .before .before .before .before .before .before .before .before .before .before .before .before .before .pre .1 .labels-room;
+      lengths-room =
+          c .before .before .before .before .before .before .before .before .before .before .before .start .kept .1 .1 .1 .1 .1 .0
+          ∙
+          c .before .before .before .before .before .before .before .before .before .before .before .before .before .before .before .before .before .before .before .before .blank .kept .1 .1 .0
+          ∙
+          c .before .before .before .before .before .before .before .before .before .before .before .before .before .before .before .before .before .before .before .before .before .before .before .before .before .before .before .before .before .before .before .before .before .before .before .before .pre .1 .lengths-room;
+    },
     (
-      record { head-room = omega (arith, c .before .before .before .before .before .before .before .before .before .before .before .before .before .before .before .before .before .before .before .before .before .before .before .before .before .before .before .before .chain .kept .1 .0, c .before .before .before .before .before .before .before .before .before .before .before .before .before .before .before .before .before .before .before .before .before .before .before .before .before .before .before .before .before .before .before .before .before .before .before .before .pre .0 .few-marks); next-room = omega (arith, c .before .before .before .before .before .before .before .before .before .before .before .before .before .before .before .before .before .before .before .before .before .before .before .before .before .before .before .before .chain .kept .1 .1 .0, c .before .before .before .before .before .before .before .before .before .before .before .before .before .before .before .before .before .before .before .before .before .before .before .before .before .before .before .before .before .before .before .before .before .before .before .before .pre .0 .few-pairs); left-room = omega (arith, c .before .before .before .before .before .before .before .before .before .before .before .before .before .before .before .before .before .before .before .before .before .before .before .before .count .kept .1 .1 .1 .0, c .before .before .before .before .before .before .before .before .before .before .before .before .before .before .before .before .before .before .before .before .before .before .before .before .before .before .before .before .before .before .before .before .before .before .before .before .pre .0 .few-marks); queue-room = omega (arith, c .before .before .before .before .before .before .before .before .before .before .before .start .kept .1 .1 .1 .1 .1 .1 .0, c .before .before .before .before .before .before .before .before .before .before .before .before .before .before .before .before .before .before .before .before .before .before .before .before .before .before .before .before .before .before .before .before .before .before .before .before .pre .0 .few-marks) },
-      (c .before .before .before .before .before .before .before .before .before .before .before .before .before .before .before .before .before .before .before .before .before .before .before .before .before .before .before .before .chain .ensures, c .before .before .before .before .before .before .before .before .before .before .before .start .ensures),
+      record {
+        head-room = omega (
+          arith,
+          c .before .before .before .before .before .before .before .before .before .before .before .before .before .before .before .before .before .before .before .before .before .before .before .before .before .before .before .before .chain .kept .1 .0,
+          c .before .before .before .before .before .before .before .before .before .before .before .before .before .before .before .before .before .before .before .before .before .before .before .before .before .before .before .before .before .before .before .before .before .before .before .before .pre .0 .few-marks,
+        );
+        next-room = omega (
+          arith,
+          c .before .before .before .before .before .before .before .before .before .before .before .before .before .before .before .before .before .before .before .before .before .before .before .before .before .before .before .before .chain .kept .1 .1 .0,
+          c .before .before .before .before .before .before .before .before .before .before .before .before .before .before .before .before .before .before .before .before .before .before .before .before .before .before .before .before .before .before .before .before .before .before .before .before .pre .0 .few-pairs,
+        );
+        left-room = omega (
+          arith,
+          c .before .before .before .before .before .before .before .before .before .before .before .before .before .before .before .before .before .before .before .before .before .before .before .before .count .kept .1 .1 .1 .0,
+          c .before .before .before .before .before .before .before .before .before .before .before .before .before .before .before .before .before .before .before .before .before .before .before .before .before .before .before .before .before .before .before .before .before .before .before .before .pre .0 .few-marks,
+        );
+        queue-room = omega (
+          arith,
+          c .before .before .before .before .before .before .before .before .before .before .before .start .kept .1 .1 .1 .1 .1 .1 .0,
+          c .before .before .before .before .before .before .before .before .before .before .before .before .before .before .before .before .before .before .before .before .before .before .before .before .before .before .before .before .before .before .before .before .before .before .before .before .pre .0 .few-marks,
+        );
+      },
+      (
+        c .before .before .before .before .before .before .before .before .before .before .before .before .before .before .before .before .before .before .before .before .before .before .before .before .before .before .before .before .chain .ensures,
+        c .before .before .before .before .before .before .before .before .before .before .before .start .ensures,
+      ),
     ),
   ),
 )

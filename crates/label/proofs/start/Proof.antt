@@ -11,13 +11,24 @@ use Rattle.label.proofs.start.Statement.{statement}
 use Rattle.label.proofs.start.Tie as tie
 
 abbrev Inv-loop : tie.InvT-loop
-Inv-loop marks objectors targets left labels₀ lengths₀ queue₀ t₀ i₀ labels lengths queue t i = (i ≤ length marks) × (length labels ≡ length labels₀) × (length lengths ≡ length lengths₀) × (length queue ≡ length queue₀) × Run marks objectors targets i 0 t 0 0 0 labels lengths left queue × ((x : ℕ) → i ≤ x → x < length marks → getD labels x 0 ≡ 0)
+Inv-loop marks objectors targets left labels₀ lengths₀ queue₀ t₀ i₀ labels lengths queue t i =
+    (i ≤ length marks) × (length labels ≡ length labels₀) × (length lengths ≡ length lengths₀) × (length queue ≡ length queue₀)
+    × Run marks objectors targets i 0 t 0 0 0 labels lengths left queue
+    × ((x : ℕ) → i ≤ x → x < length marks → getD labels x 0 ≡ 0)
 
 abbrev μ-loop : tie.MeasureT-loop
 μ-loop marks objectors targets left labels₀ lengths₀ queue₀ t₀ i₀ labels lengths queue t i = length marks - i
 
 loop-holds : tie.Need-loop-holds Inv-loop μ-loop
-loop-holds c = (search needs, refl, refl, refl, run-blank _ _ _ (c .pre .0) _ _ _ _ (c .pre .1 .0 .labels-room) (c .pre .1 .1 .1 .1) (c .pre .1 .1 .1 .0), λ x _ h. c .pre .1 .1 .1 .1 .no-label x h)
+loop-holds c = (
+  search needs,
+  refl,
+  refl,
+  refl,
+  run-blank _ _ _ (c .pre .0) _ _ _ _ (c .pre .1 .0 .labels-room) (c .pre .1 .1 .1 .1)
+      (c .pre .1 .1 .1 .0),
+  λ x _ h. c .pre .1 .1 .1 .1 .no-label x h,
+)
 
 shared-slice-read-if1 : tie.Need-shared-slice-read-if1 Inv-loop μ-loop
 shared-slice-read-if1 c = search needs
@@ -29,13 +40,24 @@ loop-less : tie.Need-loop-less Inv-loop μ-loop
 loop-less c = search needs
 
 loop-again : tie.Need-loop-again Inv-loop μ-loop
-loop-again c = (search needs, c .before .before .before .loop .inv .1, c .before .before .before .loop .inv .2, c .before .before .before .loop .inv .3, settle _ _ _ (c .before .before .before .before .pre .0) _ _ _ _ _ _ (c .before .before .before .loop .inv .4) (λ m l. absurd (c .if1 .taken m)), λ x h g. c .before .before .before .loop .inv .5 x (omega arith) g)
+loop-again c =
+    let loop = c .before .before .before .loop in (
+      search needs,
+      loop .inv .1,
+      loop .inv .2,
+      loop .inv .3,
+      settle _ _ _ (c .before .before .before .before .pre .0) _ _ _ _ _ _
+          (loop .inv .4) (λ m l. absurd (c .if1 .taken m)),
+      λ x h g. loop .inv .5 x (omega arith) g,
+    )
 
 mul-if2 : tie.Need-mul-if2 Inv-loop μ-loop
 mul-if2 c = omega (arith, c .before .before .loop-test .taken, c .before .before .before .before .pre .0 .few-marks)
 
 shared-slice-read-if2 : tie.Need-shared-slice-read-if2 Inv-loop μ-loop
-shared-slice-read-if2 c = omega (arith, c .before .before .before .loop-test .taken, c .before .before .before .before .before .pre .1 .1 .0 .0)
+shared-slice-read-if2 c =
+    let pre = c .before .before .before .before .before .pre in
+    omega (arith, c .before .before .before .loop-test .taken, pre .1 .1 .0 .0)
 
 add-i-2 : tie.Need-add-i-2 Inv-loop μ-loop
 add-i-2 c = search needs
@@ -44,28 +66,56 @@ loop-less-2 : tie.Need-loop-less-2 Inv-loop μ-loop
 loop-less-2 c = search needs
 
 loop-again-2 : tie.Need-loop-again-2 Inv-loop μ-loop
-loop-again-2 c = (search needs, c .before .before .before .before .before .loop .inv .1, c .before .before .before .before .before .loop .inv .2, c .before .before .before .before .before .loop .inv .3, settle _ _ _ (c .before .before .before .before .before .before .pre .0) _ _ _ _ _ _ (c .before .before .before .before .before .loop .inv .4) (λ m l. absurd (c .if2 .taken l)), λ x h g. c .before .before .before .before .before .loop .inv .5 x (omega arith) g)
+loop-again-2 c =
+    let pre = c .before .before .before .before .before .before .pre in
+    let loop = c .before .before .before .before .before .loop in (
+      search needs,
+      loop .inv .1,
+      loop .inv .2,
+      loop .inv .3,
+      settle _ _ _ (pre .0) _ _ _ _ _ _ (loop .inv .4)
+          (λ m l. absurd (c .if2 .taken l)),
+      λ x h g. loop .inv .5 x (omega arith) g,
+    )
 
 slice-write-labels : tie.Need-slice-write-labels Inv-loop μ-loop
 slice-write-labels c = search needs
 
 mul-lengths : tie.Need-mul-lengths Inv-loop μ-loop
-mul-lengths c = omega (arith, c .before .before .before .before .loop-test .taken, c .before .before .before .before .before .before .pre .0 .few-marks)
+mul-lengths c =
+    let pre = c .before .before .before .before .before .before .pre in
+    omega (arith, c .before .before .before .before .loop-test .taken, pre .0 .few-marks)
 
 slice-write-lengths : tie.Need-slice-write-lengths Inv-loop μ-loop
 slice-write-lengths c = search needs
 
 cast-queue : tie.Need-cast-queue Inv-loop μ-loop
-cast-queue c = omega (arith, c .before .before .before .before .loop-test .taken, c .before .before .before .before .before .before .pre .0 .few-marks)
+cast-queue c =
+    let pre = c .before .before .before .before .before .before .pre in
+    omega (arith, c .before .before .before .before .loop-test .taken, pre .0 .few-marks)
 
 mul-queue : tie.Need-mul-queue Inv-loop μ-loop
-mul-queue c = omega (arith, c .before .before .before .before .before .loop .inv .4 .full, c .before .before .before .before .before .before .pre .0 .few-marks)
+mul-queue c =
+    let pre = c .before .before .before .before .before .before .pre in
+    let loop = c .before .before .before .before .before .loop in
+    omega (arith, loop .inv .4 .full, pre .0 .few-marks)
 
 slice-write-queue : tie.Need-slice-write-queue Inv-loop μ-loop
-slice-write-queue c = omega (arith, start-room _ _ _ (c .before .before .before .before .before .before .pre .0) _ _ _ _ _ _ (c .before .before .before .before .before .loop .inv .4) (slice-write-labels c) (omega (arith, c .before .before .before .before .before .before .pre .1 .1 .0 .1, c .before .before .before .before .before .loop .inv .3)) (c .before .before .before .before .before .loop .inv .5 (c .before .before .before .before .before .loop .i) (omega arith) (c .before .before .before .before .loop-test .taken)))
+slice-write-queue c =
+    let pre = c .before .before .before .before .before .before .pre in
+    let loop = c .before .before .before .before .before .loop in
+    omega (
+      arith,
+      start-room _ _ _ (pre .0) _ _ _ _ _ _ (loop .inv .4) (slice-write-labels c)
+          (omega (arith, pre .1 .1 .0 .1, loop .inv .3)) (loop .inv .5 (loop .i) (omega arith)
+          (c .before .before .before .before .loop-test .taken)),
+    )
 
 add-t : tie.Need-add-t Inv-loop μ-loop
-add-t c = omega (arith, c .before .before .before .before .before .loop .inv .4 .full, c .before .before .before .before .before .before .pre .0 .few-marks)
+add-t c =
+    let pre = c .before .before .before .before .before .before .pre in
+    let loop = c .before .before .before .before .before .loop in
+    omega (arith, loop .inv .4 .full, pre .0 .few-marks)
 
 add-i-3 : tie.Need-add-i-3 Inv-loop μ-loop
 add-i-3 c = search needs
@@ -79,8 +129,14 @@ loop-again-3 c = (
   simp length-set (c .before .before .before .before .before .loop .inv .1),
   simp length-set (c .before .before .before .before .before .loop .inv .2),
   simp length-set (c .before .before .before .before .before .loop .inv .3),
-  start-set _ _ _ (c .before .before .before .before .before .before .pre .0) _ _ _ _ _ _ (c .before .before .before .before .before .loop .inv .4) (c .before .before .before .before .loop-test .taken) (slice-write-labels c) (slice-write-lengths c) (slice-write-queue c) (c .before .before .if1 .left) (c .if2 .left) (c .before .before .before .before .before .loop .inv .5 (c .before .before .before .before .before .loop .i) (omega arith) (c .before .before .before .before .loop-test .taken)),
-  λ x h g. getD-set-other (c .before .before .before .before .before .loop .labels) _ x 1 0 (λ (p : x ≡ c .before .before .before .before .before .loop .i). omega arith) ∙ c .before .before .before .before .before .loop .inv .5 x (omega arith) g,
+  start-set _ _ _ (c .before .before .before .before .before .before .pre .0) _ _ _ _ _ _
+      (c .before .before .before .before .before .loop .inv .4) (c .before .before .before .before .loop-test .taken)
+      (slice-write-labels c) (slice-write-lengths c) (slice-write-queue c) (c .before .before .if1 .left) (c .if2 .left)
+      (c .before .before .before .before .before .loop .inv .5 (c .before .before .before .before .before .loop .i) (omega arith)
+      (c .before .before .before .before .loop-test .taken)),
+  λ x h g. getD-set-other (c .before .before .before .before .before .loop .labels) _ x 1 0
+      (λ (p : x ≡ c .before .before .before .before .before .loop .i). omega arith)
+      ∙ c .before .before .before .before .before .loop .inv .5 x (omega arith) g,
 )
 
 same-length : tie.Need-same-length Inv-loop μ-loop

@@ -14,7 +14,9 @@ cast-result : tie.Need-cast-result
 cast-result c = omega (arith, c .shared-slice-known .given (c .before .before .args .i))
 
 returns : tie.Need-returns
-returns c = inside (c .before .before .args .s .now) (c .before .before .args .i) 0 256 (c .before .if1 .taken)
+returns c =
+    let args = c .before .before .args in
+    inside (args .s .now) (args .i) 0 256 (c .before .if1 .taken)
 
 returns-2 : tie.Need-returns-2
 returns-2 c = sym (List·getD-eq-default (c .before .args .s .now) 256 (c .if1 .left))

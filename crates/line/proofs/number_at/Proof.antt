@@ -21,10 +21,16 @@ returns : tie.Need-returns Inv-loop μ-loop
 returns c = zero-first (c .before .before .before .args .s .now) _ _ (c .before .digit-at .ensures) (c .if1 .taken)
 
 returns-2 : tie.Need-returns-2 Inv-loop μ-loop
-returns-2 c = none-first (c .before .before .before .before .args .s .now) _ _ (c .before .before .digit-at .ensures) (c .if2 .taken)
+returns-2 c =
+    none-first (c .before .before .before .before .args .s .now) _ _ (c .before .before .digit-at .ensures) (c .if2 .taken)
 
 add-i : tie.Need-add-i Inv-loop μ-loop
-add-i c = omega (arith, digit-inside (c .before .before .before .before .args .s .now) _ _ (c .before .before .digit-at .ensures) (omega arith))
+add-i c =
+    omega (
+      arith,
+      digit-inside (c .before .before .before .before .args .s .now) _ _ (c .before .before .digit-at .ensures)
+          (omega arith),
+    )
 
 loop-holds : tie.Need-loop-holds Inv-loop μ-loop
 loop-holds c = begin _ _ _ (c .before .before .digit-at .ensures) (c .before .if1 .left) (c .if2 .left)
@@ -36,31 +42,46 @@ digit-at-requires-2 : tie.Need-digit-at-requires-2 Inv-loop μ-loop
 digit-at-requires-2 c κs = search needs
 
 returns-3 : tie.Need-returns-3 Inv-loop μ-loop
-returns-3 c = whole (c .before .before .before .before .before .before .before .before .args .s .now) _ _ _ (c .before .before .before .loop .inv) _ (c .before .digit-at2 .ensures) (c .if3 .taken)
+returns-3 c =
+    let args = c .before .before .before .before .before .before .before .before .args in
+    whole (args .s .now) _ _ _ (c .before .before .before .loop .inv) _ (c .before .digit-at2 .ensures) (c .if3 .taken)
 
 mul-value : tie.Need-mul-value Inv-loop μ-loop
-mul-value c = omega (arith, below-eight (c .before .before .before .before .before .before .before .before .args .s .now) _ _ _ (c .before .before .before .loop .inv) (c .before .before .loop-test .taken))
+mul-value c =
+    let args = c .before .before .before .before .before .before .before .before .args in
+    omega (arith, below-eight (args .s .now) _ _ _ (c .before .before .before .loop .inv) (c .before .before .loop-test .taken))
 
 add-value : tie.Need-add-value Inv-loop μ-loop
-add-value c = omega (arith, below-eight (c .before .before .before .before .before .before .before .before .args .s .now) _ _ _ (c .before .before .before .loop .inv) (c .before .before .loop-test .taken))
+add-value c =
+    let args = c .before .before .before .before .before .before .before .before .args in
+    omega (arith, below-eight (args .s .now) _ _ _ (c .before .before .before .loop .inv) (c .before .before .loop-test .taken))
 
 add-i-2 : tie.Need-add-i-2 Inv-loop μ-loop
 add-i-2 c = omega (arith, c .before .before .before .loop .inv .within)
 
 loop-less : tie.Need-loop-less Inv-loop μ-loop
-loop-less c = omega (arith, c .before .before .before .loop .inv .few, c .before .before .before .loop .inv .from)
+loop-less c =
+    let loop = c .before .before .before .loop in
+    omega (arith, loop .inv .few, loop .inv .from)
 
 loop-again : tie.Need-loop-again Inv-loop μ-loop
-loop-again c = turn _ _ _ _ (c .before .before .before .loop .inv) _ (c .before .digit-at2 .ensures) (c .if3 .left) (c .before .before .loop-test .taken)
+loop-again c =
+    turn _ _ _ _ (c .before .before .before .loop .inv) _ (c .before .digit-at2 .ensures) (c .if3 .left)
+    (c .before .before .loop-test .taken)
 
 digit-at-requires-3 : tie.Need-digit-at-requires-3 Inv-loop μ-loop
 digit-at-requires-3 c κs = search needs
 
 returns-4 : tie.Need-returns-4 Inv-loop μ-loop
-returns-4 c = nine-digits (c .before .before .before .before .before .before .before .before .args .s .now) _ _ _ (c .before .before .before .loop .inv) _ (c .before .digit-at3 .ensures) (c .if4 .taken) (c .before .before .loop-test .left)
+returns-4 c =
+    let args = c .before .before .before .before .before .before .before .before .args in
+    nine-digits (args .s .now) _ _ _ (c .before .before .before .loop .inv) _ (c .before .digit-at3 .ensures) (c .if4 .taken)
+    (c .before .before .loop-test .left)
 
 returns-5 : tie.Need-returns-5 Inv-loop μ-loop
-returns-5 c = whole (c .before .before .before .before .before .before .before .before .args .s .now) _ _ _ (c .before .before .before .loop .inv) _ (c .before .digit-at3 .ensures) (c .if4 .left)
+returns-5 c =
+    let args = c .before .before .before .before .before .before .before .before .args in
+    whole (args .s .now) _ _ _ (c .before .before .before .loop .inv) _ (c .before .digit-at3 .ensures) (c .if4 .left)
 
 pub number-at-spec : {M : Type 1} → statement M
 number-at-spec =

@@ -35,10 +35,21 @@ returns : tie.Need-returns
 returns c = search needs
 
 array-share-prefix-text : tie.Need-array-share-prefix-text
-array-share-prefix-text c = let most : c .before .n .given .0 .0 ≤ length (c .before .before .before .before .before .before .large-buffer .result) = subst (λ (r : Input). Within (length (c .before .before .before .before .before .before .large-buffer .result)) r) (c .before .n .given .1) (c .before .before .before .before .read-all .ensures) in omega (arith, most, c .before .before .before .before .before .before .large-buffer .ensures, c .before .before .before .before .read-all .kept .0)
+array-share-prefix-text c =
+    let large-buffer = c .before .before .before .before .before .before .large-buffer in
+    let read-all = c .before .before .before .before .read-all in
+    let most : c .before .n .given .0 .0 ≤ length (large-buffer .result) = subst
+    (λ (r : Input). Within (length (large-buffer .result)) r) (c .before .n .given .1) (read-all .ensures) in
+    omega (arith, most, large-buffer .ensures, read-all .kept .0)
 
 slice-aggregate-print-listing : tie.Need-slice-aggregate-print-listing
-slice-aggregate-print-listing c = let most : c .before .before .n .given .0 .0 ≤ length (c .before .before .before .before .before .before .before .large-buffer .result) = subst (λ (r : Input). Within (length (c .before .before .before .before .before .before .before .large-buffer .result)) r) (c .before .before .n .given .1) (c .before .before .before .before .before .read-all .ensures) in sym (length-take-le _ _ (omega (arith, most, c .before .before .before .before .before .before .before .large-buffer .ensures, c .before .before .before .before .before .read-all .kept .0)))
+slice-aggregate-print-listing c =
+    let large-buffer = c .before .before .before .before .before .before .before .large-buffer in
+    let read-all = c .before .before .before .before .before .read-all in
+    let n = c .before .before .n in
+    let most : n .given .0 .0 ≤ length (large-buffer .result) = subst (λ (r : Input). Within (length (large-buffer .result)) r)
+    (n .given .1) (read-all .ensures) in sym (length-take-le _ _
+    (omega (arith, most, large-buffer .ensures, read-all .kept .0)))
 
 print-listing-requires : tie.Need-print-listing-requires
 print-listing-requires c κs = search needs

@@ -29,13 +29,28 @@ same-length : tie.Need-same-length
 same-length c = search needs
 
 returns : tie.Need-returns
-returns c = prints-listing (c .before .before .before .before .before .before .before .before .before .args .text .now) (c .before .before .before .before .before .before .before .before .before .args .room .now) (c .before .before .before .before .before .text-listing .last .1 .0) (c .before .answer .given .0 .0) (rw (c .before .answer .given .1) at (c .before .before .before .before .before .text-listing .ensures))
+returns c =
+    let args = c .before .before .before .before .before .before .before .before .before .args in
+    let text-listing = c .before .before .before .before .before .text-listing in
+    prints-listing (args .text .now) (args .room .now) (text-listing .last .1 .0) (c .before .answer .given .0 .0)
+    (rw (c .before .answer .given .1) at (text-listing .ensures))
 
 same-length-2 : tie.Need-same-length-2
 same-length-2 c = search needs
 
 returns-2 : tie.Need-returns-2
-returns-2 c = prints-refusal (c .before .before .before .before .before .before .before .before .before .before .before .before .before .before .before .args .text .now) (c .before .before .before .before .before .before .before .before .before .before .before .before .before .before .before .args .room .now) (c .before .before .before .before .before .before .before .before .before .before .before .text-listing .last .1 .0) (c .before .before .before .before .before .before .before .answer2 .given .0 .0) (c .before .before .write-refusal .result) (c .before .before .write-refusal .last .1 .1 .0) (c .before .before .before .before .before .before .before .before .before .before .before .before .before .before .before .pre) (rw (c .before .before .before .before .before .before .before .answer2 .given .1) at (c .before .before .before .before .before .before .before .before .before .before .before .text-listing .ensures)) (rw (← c .before .before .before .before .before .number .ensures, ← c .before .before .before .before .place .ensures) (c .before .before .write-refusal .ensures .0)) (rw (← c .before .before .before .before .before .number .ensures, ← c .before .before .before .before .place .ensures) (c .before .before .write-refusal .ensures .1))
+returns-2 c =
+    let args = c .before .before .before .before .before .before .before .before .before .before .before .before .before .before .before .args in
+    let pre = c .before .before .before .before .before .before .before .before .before .before .before .before .before .before .before .pre in
+    let text-listing = c .before .before .before .before .before .before .before .before .before .before .before .text-listing in
+    let answer2 = c .before .before .before .before .before .before .before .answer2 in
+    let number = c .before .before .before .before .before .number in
+    let place = c .before .before .before .before .place in
+    let write-refusal = c .before .before .write-refusal in
+    prints-refusal (args .text .now) (args .room .now) (text-listing .last .1 .0) (answer2 .given .0 .0) (write-refusal .result)
+    (write-refusal .last .1 .1 .0) pre (rw (answer2 .given .1) at (text-listing .ensures))
+    (rw (← number .ensures, ← place .ensures) (write-refusal .ensures .0))
+    (rw (← number .ensures, ← place .ensures) (write-refusal .ensures .1))
 
 pub output-spec : {M : Type 1} → statement M
 output-spec =

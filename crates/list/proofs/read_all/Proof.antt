@@ -36,13 +36,24 @@ returns : tie.Need-returns Inv-loop μ-loop
 returns c = search needs
 
 add-done : tie.Need-add-done Inv-loop μ-loop
-add-done c = let more : c .before .before .n .given .0 .0 ≤ length (c .before .before .before .before .before .before .before .before .before .loop .room) - c .before .before .before .before .before .before .before .before .before .loop .done = subst (λ (r : Input). Within (length (c .before .before .before .before .before .before .before .before .before .loop .room) - c .before .before .before .before .before .before .before .before .before .loop .done) r) (c .before .before .n .given .1) (c .before .before .before .before .before .before .read-more .ensures) in omega (arith, more)
+add-done c =
+    let loop = c .before .before .before .before .before .before .before .before .before .loop in
+    let read-more = c .before .before .before .before .before .before .read-more in
+    let n = c .before .before .n in
+    let more : n .given .0 .0 ≤ length (loop .room) - loop .done = subst
+    (λ (r : Input). Within (length (loop .room) - loop .done) r) (n .given .1) (read-more .ensures) in omega (arith, more)
 
 loop-less : tie.Need-loop-less Inv-loop μ-loop
 loop-less c = search needs
 
 loop-again : tie.Need-loop-again Inv-loop μ-loop
-loop-again c = let more : c .before .before .n .given .0 .0 ≤ length (c .before .before .before .before .before .before .before .before .before .loop .room) - c .before .before .before .before .before .before .before .before .before .loop .done = subst (λ (r : Input). Within (length (c .before .before .before .before .before .before .before .before .before .loop .room) - c .before .before .before .before .before .before .before .before .before .loop .done) r) (c .before .before .n .given .1) (c .before .before .before .before .before .before .read-more .ensures) in (omega (arith, more), omega arith)
+loop-again c =
+    let loop = c .before .before .before .before .before .before .before .before .before .loop in
+    let read-more = c .before .before .before .before .before .before .read-more in
+    let n = c .before .before .n in
+    let more : n .given .0 .0 ≤ length (loop .room) - loop .done = subst
+    (λ (r : Input). Within (length (loop .room) - loop .done) r) (n .given .1) (read-more .ensures) in
+    (omega (arith, more), omega arith)
 
 same-length-2 : tie.Need-same-length-2 Inv-loop μ-loop
 same-length-2 c = search needs

@@ -65,13 +65,17 @@ put-number-returns :
     (put-number-below t, put-number.Post)
     (put-number-at t)
     put-number.Post
-put-number-returns t c = rw (decimal-one (c .before .before .args .number) (omega arith)) (put-one (c .before .before .args .room .now) (c .before .before .args .at) (48 + c .before .before .args .number) (omega (arith, one-digit (c .before .before .args .number) (omega arith))))
+put-number-returns t c =
+    let args = c .before .before .args in
+    rw (decimal-one (args .number) (omega arith)) (put-one (args .room .now) (args .at) (48 + args .number)
+    (omega (arith, one-digit (args .number) (omega arith))))
 
 put-number-put-number-requires : (t : ℕ) → put-number-lts.Need-put-number-requires (
   put-number-below t,
   put-number.Post,
 ) (put-number-at t) put-number.Post
-put-number-put-number-requires t c κs = (omega arith, omega (arith, digit-more (c .before .before .before .args .number) (omega arith) (omega arith)))
+put-number-put-number-requires t c κs =
+    (omega arith, omega (arith, digit-more (c .before .before .before .args .number) (omega arith) (omega arith)))
 
 put-number-add-room-2 : (t : ℕ) → put-number-lts.Need-add-room-2 (
   put-number-below t,
@@ -89,13 +93,18 @@ put-number-slice-write-room-2 : (t : ℕ) → put-number-lts.Need-slice-write-ro
   put-number-below t,
   put-number.Post,
 ) (put-number-at t) put-number.Post
-put-number-slice-write-room-2 t c = omega (arith, digit-more (c .before .before .before .before .before .before .args .number) (omega arith) (omega arith), c .before .before .put-number .kept .0, c .before .before .put-number .ensures .ends)
+put-number-slice-write-room-2 t c =
+    let args = c .before .before .before .before .before .before .args in
+    let put-number = c .before .before .put-number in
+    omega (arith, digit-more (args .number) (omega arith) (omega arith), put-number .kept .0, put-number .ensures .ends)
 
 put-number-add-result-2 : (t : ℕ) → put-number-lts.Need-add-result-2 (
   put-number-below t,
   put-number.Post,
 ) (put-number-at t) put-number.Post
-put-number-add-result-2 t c = omega (arith, digit-more (c .before .before .before .before .before .before .args .number) (omega arith) (omega arith), c .before .before .put-number .ensures .ends)
+put-number-add-result-2 t c =
+    let args = c .before .before .before .before .before .before .args in
+    omega (arith, digit-more (args .number) (omega arith) (omega arith), c .before .before .put-number .ensures .ends)
 
 put-number-same-length-2 : (t : ℕ) → put-number-lts.Need-same-length-2 (
   put-number-below t,
@@ -107,7 +116,13 @@ put-number-returns-2 : (t : ℕ) → put-number-lts.Need-returns-2 (
   put-number-below t,
   put-number.Post,
 ) (put-number-at t) put-number.Post
-put-number-returns-2 t c = rw (decimal-tenth (c .before .before .before .before .before .before .args .number) (omega arith) (omega arith)) (put-more (c .before .before .before .before .before .before .args .room .now) (c .before .before .before .before .before .before .args .at) (decimal (c .before .before .before .before .before .before .args .number / 10)) (omega (arith, digit-more (c .before .before .before .before .before .before .args .number) (omega arith) (omega arith))) ((48 + c .before .before .before .before .before .before .args .number % 10) ∷ []) (c .before .before .put-number .ensures) (put-one _ (c .before .before .put-number .result) (48 + c .before .before .before .before .before .before .args .number % 10) (put-number-slice-write-room-2 t c)))
+put-number-returns-2 t c =
+    let args = c .before .before .before .before .before .before .args in
+    let put-number = c .before .before .put-number in
+    rw (decimal-tenth (args .number) (omega arith) (omega arith))
+    (put-more (args .room .now) (args .at) (decimal (args .number / 10))
+    (omega (arith, digit-more (args .number) (omega arith) (omega arith))) ((48 + args .number % 10) ∷ [])
+    (put-number .ensures) (put-one _ (put-number .result) (48 + args .number % 10) (put-number-slice-write-room-2 t c)))
 
 pub +put-number-spec : {M : Type 1} → statement M
 +put-number-spec = close μ-put-number λ t. put-number-lts.spec (

@@ -19,13 +19,19 @@ number-size-requires-2 : tie.Need-number-size-requires-2
 number-size-requires-2 c κs = search needs
 
 add-result-3 : tie.Need-add-result-3
-add-result-3 c = omega (arith, ten-digits (c .before .before .args .statements), ten-digits (c .before .before .args .objections))
+add-result-3 c =
+    let args = c .before .before .args in
+    omega (arith, ten-digits (args .statements), ten-digits (args .objections))
 
 add-result-4 : tie.Need-add-result-4
-add-result-4 c = omega (arith, ten-digits (c .before .before .args .statements), ten-digits (c .before .before .args .objections))
+add-result-4 c =
+    let args = c .before .before .args in
+    omega (arith, ten-digits (args .statements), ten-digits (args .objections))
 
 returns : tie.Need-returns
-returns c = omega (arith, header-length (c .before .before .args .statements) (c .before .before .args .objections))
+returns c =
+    let args = c .before .before .args in
+    omega (arith, header-length (args .statements) (args .objections))
 
 pub header-size-spec : {M : Type 1} → statement M
 header-size-spec =

@@ -16,22 +16,32 @@ number-size-requires-2 : tie.Need-number-size-requires-2
 number-size-requires-2 c κs = search needs
 
 add-result-2 : tie.Need-add-result-2
-add-result-2 c = omega (arith, ten-digits (c .before .before .args .objector), ten-digits (c .before .before .args .target))
+add-result-2 c =
+    let args = c .before .before .args in
+    omega (arith, ten-digits (args .objector), ten-digits (args .target))
 
 add-result-3 : tie.Need-add-result-3
-add-result-3 c = omega (arith, ten-digits (c .before .before .args .objector), ten-digits (c .before .before .args .target))
+add-result-3 c =
+    let args = c .before .before .args in
+    omega (arith, ten-digits (args .objector), ten-digits (args .target))
 
 kind-size-requires : tie.Need-kind-size-requires
 kind-size-requires c κs = search needs
 
 add-result-4 : tie.Need-add-result-4
-add-result-4 c = omega (arith, ten-digits (c .before .before .before .args .objector), ten-digits (c .before .before .before .args .target), kind-small (c .before .before .before .args .kind))
+add-result-4 c =
+    let args = c .before .before .before .args in
+    omega (arith, ten-digits (args .objector), ten-digits (args .target), kind-small (args .kind))
 
 add-result-5 : tie.Need-add-result-5
-add-result-5 c = omega (arith, ten-digits (c .before .before .before .args .objector), ten-digits (c .before .before .before .args .target), kind-small (c .before .before .before .args .kind))
+add-result-5 c =
+    let args = c .before .before .before .args in
+    omega (arith, ten-digits (args .objector), ten-digits (args .target), kind-small (args .kind))
 
 returns : tie.Need-returns
-returns c = omega (arith, objection-length (c .before .before .before .args .objector) (c .before .before .before .args .target) (c .before .before .before .args .kind))
+returns c =
+    let args = c .before .before .before .args in
+    omega (arith, objection-length (args .objector) (args .target) (args .kind))
 
 pub objection-size-spec : {M : Type 1} → statement M
 objection-size-spec =

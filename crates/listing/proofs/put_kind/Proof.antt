@@ -11,7 +11,9 @@ slice-aggregate-put-word : tie.Need-slice-aggregate-put-word
 slice-aggregate-put-word c = search needs
 
 put-word-requires : tie.Need-put-word-requires
-put-word-requires c κs = let p = rw (c .before .before .enum-told .given .1) at (c .before .before .before .before .before .pre) in omega arith
+put-word-requires c κs =
+    let pre = c .before .before .before .before .before .pre in
+    let p = rw (c .before .before .enum-told .given .1) at pre in omega arith
 
 enum-known-kind : tie.Need-enum-known-kind
 enum-known-kind c = search needs
@@ -20,7 +22,9 @@ slice-aggregate-put-counted : tie.Need-slice-aggregate-put-counted
 slice-aggregate-put-counted c = search needs
 
 put-counted-requires : tie.Need-put-counted-requires
-put-counted-requires c κs = let p = rw (c .before .before .before .kind .given .1) at (c .before .before .before .before .before .before .pre) in omega arith
+put-counted-requires c κs =
+    let pre = c .before .before .before .before .before .before .pre in
+    let p = rw (c .before .before .before .kind .given .1) at pre in omega arith
 
 enum-known-kind-2 : tie.Need-enum-known-kind-2
 enum-known-kind-2 c = search needs
@@ -29,7 +33,9 @@ slice-aggregate-put-counted-2 : tie.Need-slice-aggregate-put-counted-2
 slice-aggregate-put-counted-2 c = search needs
 
 put-counted-requires-2 : tie.Need-put-counted-requires-2
-put-counted-requires-2 c κs = let p = rw (c .before .before .before .kind2 .given .1) at (c .before .before .before .before .before .before .pre) in omega arith
+put-counted-requires-2 c κs =
+    let pre = c .before .before .before .before .before .before .pre in
+    let p = rw (c .before .before .before .kind2 .given .1) at pre in omega arith
 
 enum-told-2 : tie.Need-enum-told-2
 enum-told-2 c = search needs
@@ -38,31 +44,41 @@ slice-aggregate-put-word-2 : tie.Need-slice-aggregate-put-word-2
 slice-aggregate-put-word-2 c = search needs
 
 put-word-requires-2 : tie.Need-put-word-requires-2
-put-word-requires-2 c κs = let p = rw (c .before .before .enum-told2 .given .1) at (c .before .before .before .before .before .pre) in omega arith
+put-word-requires-2 c κs =
+    let pre = c .before .before .before .before .before .pre in
+    let p = rw (c .before .before .enum-told2 .given .1) at pre in omega arith
 
 same-length : tie.Need-same-length
 same-length c = search needs
 
 returns : tie.Need-returns
-returns c = rw (c .before .before .before .before .before .enum-told .given .1) (c .before .before .put-word .ensures)
+returns c =
+    let enum-told = c .before .before .before .before .before .enum-told in
+    rw (enum-told .given .1) (c .before .before .put-word .ensures)
 
 same-length-2 : tie.Need-same-length-2
 same-length-2 c = search needs
 
 returns-2 : tie.Need-returns-2
-returns-2 c = rw (c .before .before .before .before .before .before .kind .given .1) (c .before .before .put-counted .ensures)
+returns-2 c =
+    let kind = c .before .before .before .before .before .before .kind in
+    rw (kind .given .1) (c .before .before .put-counted .ensures)
 
 same-length-3 : tie.Need-same-length-3
 same-length-3 c = search needs
 
 returns-3 : tie.Need-returns-3
-returns-3 c = rw (c .before .before .before .before .before .before .kind2 .given .1) (c .before .before .put-counted2 .ensures)
+returns-3 c =
+    let kind2 = c .before .before .before .before .before .before .kind2 in
+    rw (kind2 .given .1) (c .before .before .put-counted2 .ensures)
 
 same-length-4 : tie.Need-same-length-4
 same-length-4 c = search needs
 
 returns-4 : tie.Need-returns-4
-returns-4 c = rw (c .before .before .before .before .before .enum-told2 .given .1) (c .before .before .put-word2 .ensures)
+returns-4 c =
+    let enum-told2 = c .before .before .before .before .before .enum-told2 in
+    rw (enum-told2 .given .1) (c .before .before .put-word2 .ensures)
 
 pub put-kind-spec : {M : Type 1} → statement M
 put-kind-spec =

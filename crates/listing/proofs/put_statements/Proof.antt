@@ -20,7 +20,13 @@ abbrev μ-loop : tie.MeasureT-loop
     length numbers - x
 
 loop-holds : tie.Need-loop-holds Inv-loop μ-loop
-loop-holds c = (search needs, search needs, rw (no-rows (statementAt (c .before .before .before .before .args .numbers .now) (c .before .before .before .before .args .labels .now) (c .before .before .before .before .args .lengths .now))) (put-none (c .before .before .before .before .args .room .now) (c .before .before .before .before .args .at)))
+loop-holds c =
+    let args = c .before .before .before .before .args in (
+      search needs,
+      search needs,
+      rw (no-rows (statementAt (args .numbers .now) (args .labels .now) (args .lengths .now)))
+          (put-none (args .room .now) (args .at)),
+    )
 
 mul-put-statement : tie.Need-mul-put-statement Inv-loop μ-loop
 mul-put-statement c = search needs
@@ -38,7 +44,19 @@ shared-slice-read-put-statement-3 : tie.Need-shared-slice-read-put-statement-3 I
 shared-slice-read-put-statement-3 c = search needs
 
 put-statement-requires : tie.Need-put-statement-requires Inv-loop μ-loop
-put-statement-requires c κs = omega (arith, c .before .before .before .before .before .loop .inv .2 .ends, rows-longer (statementAt (c .before .before .before .before .before .before .before .before .before .before .args .numbers .now) (c .before .before .before .before .before .before .before .before .before .before .args .labels .now) (c .before .before .before .before .before .before .before .before .before .before .args .lengths .now)) (c .before .before .before .before .before .loop .x), rows-fewer (statementAt (c .before .before .before .before .before .before .before .before .before .before .args .numbers .now) (c .before .before .before .before .before .before .before .before .before .before .args .labels .now) (c .before .before .before .before .before .before .before .before .before .before .args .lengths .now)) (c .before .before .before .before .before .loop .x + 1) (length (c .before .before .before .before .before .before .before .before .before .before .args .numbers .now)) (omega arith), ap length (statements-all (c .before .before .before .before .before .before .before .before .before .before .args .numbers .now) (c .before .before .before .before .before .before .before .before .before .before .args .labels .now) (c .before .before .before .before .before .before .before .before .before .before .args .lengths .now) (length (c .before .before .before .before .before .before .before .before .before .before .args .numbers .now)) refl))
+put-statement-requires c κs =
+    let args = c .before .before .before .before .before .before .before .before .before .before .args in
+    let loop = c .before .before .before .before .before .loop in
+    let numbers = args .numbers .now in
+    let labels = args .labels .now in
+    let lengths = args .lengths .now in
+    omega (
+      arith,
+      loop .inv .2 .ends,
+      rows-longer (statementAt numbers labels lengths) (loop .x),
+      rows-fewer (statementAt numbers labels lengths) (loop .x + 1) (length numbers) (omega arith),
+      ap length (statements-all numbers labels lengths (length numbers) refl),
+    )
 
 add-x : tie.Need-add-x Inv-loop μ-loop
 add-x c = search needs
@@ -47,13 +65,33 @@ loop-less : tie.Need-loop-less Inv-loop μ-loop
 loop-less c = search needs
 
 loop-again : tie.Need-loop-again Inv-loop μ-loop
-loop-again c = (search needs, c .before .before .put-statement .kept .0 ∙ c .before .before .before .before .before .before .before .before .loop .inv .1, row-put (c .before .before .before .before .before .before .before .before .before .before .before .before .before .args .room .now) (c .before .before .before .before .before .before .before .before .before .before .before .before .before .args .at) (statementAt (c .before .before .before .before .before .before .before .before .before .before .before .before .before .args .numbers .now) (c .before .before .before .before .before .before .before .before .before .before .before .before .before .args .labels .now) (c .before .before .before .before .before .before .before .before .before .before .before .before .before .args .lengths .now)) (c .before .before .before .before .before .before .before .before .loop .x) (omega (arith, rows-fewer (statementAt (c .before .before .before .before .before .before .before .before .before .before .before .before .before .args .numbers .now) (c .before .before .before .before .before .before .before .before .before .before .before .before .before .args .labels .now) (c .before .before .before .before .before .before .before .before .before .before .before .before .before .args .lengths .now)) (c .before .before .before .before .before .before .before .before .loop .x + 1) (length (c .before .before .before .before .before .before .before .before .before .before .before .before .before .args .numbers .now)) (omega arith), ap length (statements-all (c .before .before .before .before .before .before .before .before .before .before .before .before .before .args .numbers .now) (c .before .before .before .before .before .before .before .before .before .before .before .before .before .args .labels .now) (c .before .before .before .before .before .before .before .before .before .before .before .before .before .args .lengths .now) (length (c .before .before .before .before .before .before .before .before .before .before .before .before .before .args .numbers .now)) refl))) (c .before .before .before .before .before .before .before .before .loop .inv .2) refl (c .before .before .put-statement .ensures))
+loop-again c =
+    let args = c .before .before .before .before .before .before .before .before .before .before .before .before .before .args in
+    let loop = c .before .before .before .before .before .before .before .before .loop in
+    let put-statement = c .before .before .put-statement in
+    let numbers = args .numbers .now in
+    let labels = args .labels .now in
+    let lengths = args .lengths .now in (
+      search needs,
+      put-statement .kept .0 ∙ loop .inv .1,
+      row-put (args .room .now) (args .at)
+          (statementAt numbers labels lengths) (loop .x) (omega (
+            arith,
+            rows-fewer (statementAt numbers labels lengths) (loop .x + 1) (length numbers) (omega arith),
+            ap length (statements-all numbers labels lengths (length numbers) refl),
+          )) (loop .inv .2) refl
+          (put-statement .ensures),
+    )
 
 same-length : tie.Need-same-length Inv-loop μ-loop
 same-length c = search needs
 
 returns : tie.Need-returns Inv-loop μ-loop
-returns c = subst (λ u. Put (c .before .before .before .before .before .before .args .room .now) (c .before .before .before .before .before .before .args .at) u (c .before .loop .end) (c .before .loop .room)) (statements-all (c .before .before .before .before .before .before .args .numbers .now) (c .before .before .before .before .before .before .args .labels .now) (c .before .before .before .before .before .before .args .lengths .now) (c .before .loop .x) (omega arith)) (c .before .loop .inv .2)
+returns c =
+    let args = c .before .before .before .before .before .before .args in
+    subst (λ u. Put (args .room .now) (args .at) u (c .before .loop .end) (c .before .loop .room))
+    (statements-all (args .numbers .now) (args .labels .now) (args .lengths .now) (c .before .loop .x) (omega arith))
+    (c .before .loop .inv .2)
 
 pub put-statements-spec : {M : Type 1} → statement M
 put-statements-spec =

@@ -9,37 +9,54 @@ slice-aggregate-put-counted : tie.Need-slice-aggregate-put-counted
 slice-aggregate-put-counted c = search needs
 
 put-counted-requires : tie.Need-put-counted-requires
-put-counted-requires c κs = let p = rw (said-falls (c .before .before .before .before .args .label) (c .before .before .before .before .args .turns) (c .before .before .match .keys1)) at (c .before .before .before .before .pre) in omega arith
+put-counted-requires c κs =
+    let args = c .before .before .before .before .args in
+    let p = rw (said-falls (args .label) (args .turns) (c .before .before .match .keys1)) at
+    (c .before .before .before .before .pre) in omega arith
 
 slice-aggregate-put-counted-2 : tie.Need-slice-aggregate-put-counted-2
 slice-aggregate-put-counted-2 c = search needs
 
 put-counted-requires-2 : tie.Need-put-counted-requires-2
-put-counted-requires-2 c κs = let p = rw (said-stands (c .before .before .before .before .args .label) (c .before .before .before .before .args .turns) (c .before .before .match .keys2)) at (c .before .before .before .before .pre) in omega arith
+put-counted-requires-2 c κs =
+    let args = c .before .before .before .before .args in
+    let p = rw (said-stands (args .label) (args .turns) (c .before .before .match .keys2)) at
+    (c .before .before .before .before .pre) in omega arith
 
 slice-aggregate-put-word : tie.Need-slice-aggregate-put-word
 slice-aggregate-put-word c = search needs
 
 put-word-requires : tie.Need-put-word-requires
-put-word-requires c κs = let p = rw (said-open (c .before .before .before .before .args .label) (c .before .before .before .before .args .turns) (λ e. omega arith) (λ e. omega arith)) at (c .before .before .before .before .pre) in omega arith
+put-word-requires c κs =
+    let args = c .before .before .before .before .args in
+    let p = rw (said-open (args .label) (args .turns) (λ e. omega arith) (λ e. omega arith)) at
+    (c .before .before .before .before .pre) in omega arith
 
 same-length : tie.Need-same-length
 same-length c = search needs
 
 returns : tie.Need-returns
-returns c = rw (said-falls (c .before .before .before .before .before .before .before .args .label) (c .before .before .before .before .before .before .before .args .turns) (c .before .before .before .before .before .match .keys1)) (c .before .before .put-counted .ensures)
+returns c =
+    let args = c .before .before .before .before .before .before .before .args in
+    let match = c .before .before .before .before .before .match in
+    rw (said-falls (args .label) (args .turns) (match .keys1)) (c .before .before .put-counted .ensures)
 
 same-length-2 : tie.Need-same-length-2
 same-length-2 c = search needs
 
 returns-2 : tie.Need-returns-2
-returns-2 c = rw (said-stands (c .before .before .before .before .before .before .before .args .label) (c .before .before .before .before .before .before .before .args .turns) (c .before .before .before .before .before .match .keys2)) (c .before .before .put-counted2 .ensures)
+returns-2 c =
+    let args = c .before .before .before .before .before .before .before .args in
+    let match = c .before .before .before .before .before .match in
+    rw (said-stands (args .label) (args .turns) (match .keys2)) (c .before .before .put-counted2 .ensures)
 
 same-length-3 : tie.Need-same-length-3
 same-length-3 c = search needs
 
 returns-3 : tie.Need-returns-3
-returns-3 c = rw (said-open (c .before .before .before .before .before .before .before .args .label) (c .before .before .before .before .before .before .before .args .turns) (λ e. omega arith) (λ e. omega arith)) (c .before .before .put-word .ensures)
+returns-3 c =
+    let args = c .before .before .before .before .before .before .before .args in
+    rw (said-open (args .label) (args .turns) (λ e. omega arith) (λ e. omega arith)) (c .before .before .put-word .ensures)
 
 pub put-verdict-spec : {M : Type 1} → statement M
 put-verdict-spec =

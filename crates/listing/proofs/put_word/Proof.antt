@@ -25,7 +25,9 @@ shared-slice-read-room : tie.Need-shared-slice-read-room Inv-loop μ-loop
 shared-slice-read-room c = search needs
 
 slice-write-room : tie.Need-slice-write-room Inv-loop μ-loop
-slice-write-room c = omega (arith, c .before .before .loop .inv .2 .ends, length-take-le (c .before .before .loop .i) (c .before .before .before .args .word .now) (omega arith))
+slice-write-room c =
+    let loop = c .before .before .loop in
+    omega (arith, loop .inv .2 .ends, length-take-le (loop .i) (c .before .before .before .args .word .now) (omega arith))
 
 add-end : tie.Need-add-end Inv-loop μ-loop
 add-end c = omega (arith, slice-write-room c)
@@ -37,13 +39,24 @@ loop-less : tie.Need-loop-less Inv-loop μ-loop
 loop-less c = search needs
 
 loop-again : tie.Need-loop-again Inv-loop μ-loop
-loop-again c = (search needs, simp length-set (c .before .before .loop .inv .1), put-next (c .before .before .before .args .room .now) (c .before .before .before .args .at) (c .before .before .before .args .word .now) (c .before .before .before .pre) (c .before .before .loop .i) (c .before .before .loop .end) (c .before .before .loop .room) (c .before .before .loop .inv .2) (c .before .loop-test .taken) (slice-write-room c))
+loop-again c =
+    let args = c .before .before .before .args in
+    let loop = c .before .before .loop in (
+      search needs,
+      simp length-set (loop .inv .1),
+      put-next (args .room .now) (args .at) (args .word .now)
+          (c .before .before .before .pre) (loop .i) (loop .end) (loop .room) (loop .inv .2) (c .before .loop-test .taken)
+          (slice-write-room c),
+    )
 
 same-length : tie.Need-same-length Inv-loop μ-loop
 same-length c = search needs
 
 returns : tie.Need-returns Inv-loop μ-loop
-returns c = put-all (c .before .before .args .room .now) (c .before .before .args .at) (c .before .before .args .word .now) (c .before .before .pre) (c .before .loop .i) (c .before .loop .end) (c .before .loop .room) (c .before .loop .inv .2) (c .loop-test .left)
+returns c =
+    let args = c .before .before .args in
+    put-all (args .room .now) (args .at) (args .word .now) (c .before .before .pre) (c .before .loop .i) (c .before .loop .end)
+    (c .before .loop .room) (c .before .loop .inv .2) (c .loop-test .left)
 
 pub put-word-spec : {M : Type 1} → statement M
 put-word-spec =

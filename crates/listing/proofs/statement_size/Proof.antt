@@ -17,13 +17,19 @@ verdict-size-requires : tie.Need-verdict-size-requires
 verdict-size-requires c κs = search needs
 
 add-result-2 : tie.Need-add-result-2
-add-result-2 c = omega (arith, ten-digits (c .before .before .args .number), verdict-small (said (c .before .before .args .label) (c .before .before .args .turns)))
+add-result-2 c =
+    let args = c .before .before .args in
+    omega (arith, ten-digits (args .number), verdict-small (said (args .label) (args .turns)))
 
 add-result-3 : tie.Need-add-result-3
-add-result-3 c = omega (arith, ten-digits (c .before .before .args .number), verdict-small (said (c .before .before .args .label) (c .before .before .args .turns)))
+add-result-3 c =
+    let args = c .before .before .args in
+    omega (arith, ten-digits (args .number), verdict-small (said (args .label) (args .turns)))
 
 returns : tie.Need-returns
-returns c = omega (arith, statement-length (c .before .before .args .number) (said (c .before .before .args .label) (c .before .before .args .turns)))
+returns c =
+    let args = c .before .before .args in
+    omega (arith, statement-length (args .number) (said (args .label) (args .turns)))
 
 pub statement-size-spec : {M : Type 1} → statement M
 statement-size-spec =

@@ -18,7 +18,9 @@ abbrev μ-loop : tie.MeasureT-loop
     length numbers - x
 
 loop-holds : tie.Need-loop-holds Inv-loop μ-loop
-loop-holds c = (search needs, sym (ap length (no-rows (statementAt (c .before .before .before .args .numbers .now) (c .before .before .before .args .labels .now) (c .before .before .before .args .lengths .now)))))
+loop-holds c =
+    let args = c .before .before .before .args in
+    (search needs, sym (ap length (no-rows (statementAt (args .numbers .now) (args .labels .now) (args .lengths .now)))))
 
 mul-statement-size : tie.Need-mul-statement-size Inv-loop μ-loop
 mul-statement-size c = search needs
@@ -39,7 +41,17 @@ statement-size-requires : tie.Need-statement-size-requires Inv-loop μ-loop
 statement-size-requires c κs = search needs
 
 add-total : tie.Need-add-total Inv-loop μ-loop
-add-total c = omega (arith, statements-small (c .before .before .before .before .before .before .before .before .before .args .numbers .now) (c .before .before .before .before .before .before .before .before .before .args .labels .now) (c .before .before .before .before .before .before .before .before .before .args .lengths .now) (c .before .before .before .before .before .loop .x + 1), rows-longer (statementAt (c .before .before .before .before .before .before .before .before .before .args .numbers .now) (c .before .before .before .before .before .before .before .before .before .args .labels .now) (c .before .before .before .before .before .before .before .before .before .args .lengths .now)) (c .before .before .before .before .before .loop .x))
+add-total c =
+    let args = c .before .before .before .before .before .before .before .before .before .args in
+    let loop = c .before .before .before .before .before .loop in
+    let numbers = args .numbers .now in
+    let labels = args .labels .now in
+    let lengths = args .lengths .now in
+    omega (
+      arith,
+      statements-small numbers labels lengths (loop .x + 1),
+      rows-longer (statementAt numbers labels lengths) (loop .x),
+    )
 
 add-x : tie.Need-add-x Inv-loop μ-loop
 add-x c = search needs
@@ -48,10 +60,25 @@ loop-less : tie.Need-loop-less Inv-loop μ-loop
 loop-less c = search needs
 
 loop-again : tie.Need-loop-again Inv-loop μ-loop
-loop-again c = (search needs, omega (arith, rows-longer (statementAt (c .before .before .before .before .before .before .before .before .before .args .numbers .now) (c .before .before .before .before .before .before .before .before .before .args .labels .now) (c .before .before .before .before .before .before .before .before .before .args .lengths .now)) (c .before .before .before .before .before .loop .x)))
+loop-again c =
+    let args = c .before .before .before .before .before .before .before .before .before .args in
+    let loop = c .before .before .before .before .before .loop in (
+      search needs,
+      omega (
+        arith,
+        rows-longer (statementAt (args .numbers .now) (args .labels .now) (args .lengths .now))
+            (loop .x),
+      ),
+    )
 
 returns : tie.Need-returns Inv-loop μ-loop
-returns c = omega (arith, ap length (statements-all (c .before .before .before .before .before .args .numbers .now) (c .before .before .before .before .before .args .labels .now) (c .before .before .before .before .before .args .lengths .now) (c .before .loop .x) (omega arith)))
+returns c =
+    let args = c .before .before .before .before .before .args in
+    omega (
+      arith,
+      ap length (statements-all (args .numbers .now) (args .labels .now) (args .lengths .now) (c .before .loop .x)
+          (omega arith)),
+    )
 
 pub statements-size-spec : {M : Type 1} → statement M
 statements-size-spec =

@@ -20,10 +20,14 @@ add-result-2 : tie.Need-add-result-2
 add-result-2 c = omega (arith, ten-digits (c .before .before .args .turns))
 
 returns : tie.Need-returns
-returns c = rw (said-falls (c .before .before .args .label) (c .before .before .args .turns) (c .before .match .keys1)) (omega arith)
+returns c =
+    let args = c .before .before .args in
+    rw (said-falls (args .label) (args .turns) (c .before .match .keys1)) (omega arith)
 
 returns-2 : tie.Need-returns-2
-returns-2 c = rw (said-stands (c .before .before .args .label) (c .before .before .args .turns) (c .before .match .keys2)) (omega arith)
+returns-2 c =
+    let args = c .before .before .args in
+    rw (said-stands (args .label) (args .turns) (c .before .match .keys2)) (omega arith)
 
 returns-3 : tie.Need-returns-3
 returns-3 c = rw (said-open (c .before .args .label) (c .before .args .turns) (λ e. omega arith) (λ e. omega arith)) refl

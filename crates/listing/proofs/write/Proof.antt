@@ -9,25 +9,104 @@ use Rattle.listing.proofs.write.Statement.{statement}
 use Rattle.listing.proofs.write.Tie as tie
 
 cast-put-header : tie.Need-cast-put-header
-cast-put-header c = let g = ready-lists (c .before .before .before .before .before .before .before .before .pre .0) (c .before .before .before .before .before .before .before .before .args .numbers .now) (c .before .before .before .before .before .before .before .before .args .marks .now) (c .before .before .before .before .before .before .before .before .args .objectors .now) (c .before .before .before .before .before .before .before .before .args .targets .now) (c .before .before .before .before .before .before .before .before .args .labels .now) (c .before .before .before .before .before .before .before .before .args .lengths .now) (c .before .before .before .before .before .before .before .before .pre .1) in omega (arith, g .handed .few-marks, g .numbered)
+cast-put-header c =
+    let pre = c .before .before .before .before .before .before .before .before .pre in
+    let args = c .before .before .before .before .before .before .before .before .args in
+    let g = ready-lists (pre .0) (args .numbers .now) (args .marks .now) (args .objectors .now) (args .targets .now)
+    (args .labels .now) (args .lengths .now) (pre .1) in omega (arith, g .handed .few-marks, g .numbered)
 
 cast-put-header-2 : tie.Need-cast-put-header-2
-cast-put-header-2 c = let g = ready-lists (c .before .before .before .before .before .before .before .before .pre .0) (c .before .before .before .before .before .before .before .before .args .numbers .now) (c .before .before .before .before .before .before .before .before .args .marks .now) (c .before .before .before .before .before .before .before .before .args .objectors .now) (c .before .before .before .before .before .before .before .before .args .targets .now) (c .before .before .before .before .before .before .before .before .args .labels .now) (c .before .before .before .before .before .before .before .before .args .lengths .now) (c .before .before .before .before .before .before .before .before .pre .1) in omega (arith, g .handed .few-pairs)
+cast-put-header-2 c =
+    let pre = c .before .before .before .before .before .before .before .before .pre in
+    let args = c .before .before .before .before .before .before .before .before .args in
+    let g = ready-lists (pre .0) (args .numbers .now) (args .marks .now) (args .objectors .now) (args .targets .now)
+    (args .labels .now) (args .lengths .now) (pre .1) in omega (arith, g .handed .few-pairs)
 
 put-header-requires : tie.Need-put-header-requires
-put-header-requires c κs = omega (arith, whole-length (c .before .before .before .before .before .before .before .before .args .numbers .now) (c .before .before .before .before .before .before .before .before .args .labels .now) (c .before .before .before .before .before .before .before .before .args .lengths .now) (c .before .before .before .before .before .before .before .before .args .objectors .now) (c .before .before .before .before .before .before .before .before .args .targets .now), c .before .before .before .before .before .before .before .before .pre .2 (whole (c .before .before .before .before .before .before .before .before .args .numbers .now) (c .before .before .before .before .before .before .before .before .args .objectors .now) (c .before .before .before .before .before .before .before .before .args .targets .now) (c .before .before .before .before .before .before .before .before .args .labels .now) (c .before .before .before .before .before .before .before .before .args .lengths .now)) (ready-listing (c .before .before .before .before .before .before .before .before .pre .0) (c .before .before .before .before .before .before .before .before .args .numbers .now) (c .before .before .before .before .before .before .before .before .args .marks .now) (c .before .before .before .before .before .before .before .before .args .objectors .now) (c .before .before .before .before .before .before .before .before .args .targets .now) (c .before .before .before .before .before .before .before .before .args .labels .now) (c .before .before .before .before .before .before .before .before .args .lengths .now) (c .before .before .before .before .before .before .before .before .pre .1)))
+put-header-requires c κs =
+    let args = c .before .before .before .before .before .before .before .before .args in
+    let pre = c .before .before .before .before .before .before .before .before .pre in
+    let numbers = args .numbers .now in
+    let labels = args .labels .now in
+    let lengths = args .lengths .now in
+    let objectors = args .objectors .now in
+    let targets = args .targets .now in
+    omega (
+      arith,
+      whole-length numbers labels lengths objectors targets,
+      pre .2 (whole numbers objectors targets labels lengths)
+          (ready-listing (pre .0) numbers (args .marks .now) objectors targets labels lengths (pre .1)),
+    )
 
 put-statements-requires : tie.Need-put-statements-requires
-put-statements-requires c κs = let g = ready-lists (c .before .before .before .before .before .before .before .before .before .before .before .before .pre .0) (c .before .before .before .before .before .before .before .before .before .before .before .before .args .numbers .now) (c .before .before .before .before .before .before .before .before .before .before .before .before .args .marks .now) (c .before .before .before .before .before .before .before .before .before .before .before .before .args .objectors .now) (c .before .before .before .before .before .before .before .before .before .before .before .before .args .targets .now) (c .before .before .before .before .before .before .before .before .before .before .before .before .args .labels .now) (c .before .before .before .before .before .before .before .before .before .before .before .before .args .lengths .now) (c .before .before .before .before .before .before .before .before .before .before .before .before .pre .1) in ((omega (arith, g .numbered, g .labels-room), omega (arith, g .numbered, g .lengths-room)), omega (arith, whole-length (c .before .before .before .before .before .before .before .before .before .before .before .before .args .numbers .now) (c .before .before .before .before .before .before .before .before .before .before .before .before .args .labels .now) (c .before .before .before .before .before .before .before .before .before .before .before .before .args .lengths .now) (c .before .before .before .before .before .before .before .before .before .before .before .before .args .objectors .now) (c .before .before .before .before .before .before .before .before .before .before .before .before .args .targets .now), c .before .before .before .before .before .before .before .before .before .before .before .before .pre .2 (whole (c .before .before .before .before .before .before .before .before .before .before .before .before .args .numbers .now) (c .before .before .before .before .before .before .before .before .before .before .before .before .args .objectors .now) (c .before .before .before .before .before .before .before .before .before .before .before .before .args .targets .now) (c .before .before .before .before .before .before .before .before .before .before .before .before .args .labels .now) (c .before .before .before .before .before .before .before .before .before .before .before .before .args .lengths .now)) (ready-listing (c .before .before .before .before .before .before .before .before .before .before .before .before .pre .0) (c .before .before .before .before .before .before .before .before .before .before .before .before .args .numbers .now) (c .before .before .before .before .before .before .before .before .before .before .before .before .args .marks .now) (c .before .before .before .before .before .before .before .before .before .before .before .before .args .objectors .now) (c .before .before .before .before .before .before .before .before .before .before .before .before .args .targets .now) (c .before .before .before .before .before .before .before .before .before .before .before .before .args .labels .now) (c .before .before .before .before .before .before .before .before .before .before .before .before .args .lengths .now) (c .before .before .before .before .before .before .before .before .before .before .before .before .pre .1))))
+put-statements-requires c κs =
+    let pre = c .before .before .before .before .before .before .before .before .before .before .before .before .pre in
+    let args = c .before .before .before .before .before .before .before .before .before .before .before .before .args in
+    let numbers = args .numbers .now in
+    let marks = args .marks .now in
+    let objectors = args .objectors .now in
+    let targets = args .targets .now in
+    let labels = args .labels .now in
+    let lengths = args .lengths .now in
+    let g = ready-lists (pre .0) numbers marks objectors targets labels lengths (pre .1) in (
+      (omega (arith, g .numbered, g .labels-room), omega (arith, g .numbered, g .lengths-room)),
+      omega (
+        arith,
+        whole-length numbers labels lengths objectors targets,
+        pre .2 (whole numbers objectors targets labels lengths)
+            (ready-listing (pre .0) numbers marks objectors targets labels lengths (pre .1)),
+      ),
+    )
 
 put-objections-requires : tie.Need-put-objections-requires
-put-objections-requires c κs = (ready-lists (c .before .before .before .before .before .before .before .before .before .before .before .before .before .before .before .before .pre .0) (c .before .before .before .before .before .before .before .before .before .before .before .before .before .before .before .before .args .numbers .now) (c .before .before .before .before .before .before .before .before .before .before .before .before .before .before .before .before .args .marks .now) (c .before .before .before .before .before .before .before .before .before .before .before .before .before .before .before .before .args .objectors .now) (c .before .before .before .before .before .before .before .before .before .before .before .before .before .before .before .before .args .targets .now) (c .before .before .before .before .before .before .before .before .before .before .before .before .before .before .before .before .args .labels .now) (c .before .before .before .before .before .before .before .before .before .before .before .before .before .before .before .before .args .lengths .now) (c .before .before .before .before .before .before .before .before .before .before .before .before .before .before .before .before .pre .1), omega (arith, whole-length (c .before .before .before .before .before .before .before .before .before .before .before .before .before .before .before .before .args .numbers .now) (c .before .before .before .before .before .before .before .before .before .before .before .before .before .before .before .before .args .labels .now) (c .before .before .before .before .before .before .before .before .before .before .before .before .before .before .before .before .args .lengths .now) (c .before .before .before .before .before .before .before .before .before .before .before .before .before .before .before .before .args .objectors .now) (c .before .before .before .before .before .before .before .before .before .before .before .before .before .before .before .before .args .targets .now), c .before .before .before .before .before .before .before .before .before .before .before .before .before .before .before .before .pre .2 (whole (c .before .before .before .before .before .before .before .before .before .before .before .before .before .before .before .before .args .numbers .now) (c .before .before .before .before .before .before .before .before .before .before .before .before .before .before .before .before .args .objectors .now) (c .before .before .before .before .before .before .before .before .before .before .before .before .before .before .before .before .args .targets .now) (c .before .before .before .before .before .before .before .before .before .before .before .before .before .before .before .before .args .labels .now) (c .before .before .before .before .before .before .before .before .before .before .before .before .before .before .before .before .args .lengths .now)) (ready-listing (c .before .before .before .before .before .before .before .before .before .before .before .before .before .before .before .before .pre .0) (c .before .before .before .before .before .before .before .before .before .before .before .before .before .before .before .before .args .numbers .now) (c .before .before .before .before .before .before .before .before .before .before .before .before .before .before .before .before .args .marks .now) (c .before .before .before .before .before .before .before .before .before .before .before .before .before .before .before .before .args .objectors .now) (c .before .before .before .before .before .before .before .before .before .before .before .before .before .before .before .before .args .targets .now) (c .before .before .before .before .before .before .before .before .before .before .before .before .before .before .before .before .args .labels .now) (c .before .before .before .before .before .before .before .before .before .before .before .before .before .before .before .before .args .lengths .now) (c .before .before .before .before .before .before .before .before .before .before .before .before .before .before .before .before .pre .1))))
+put-objections-requires c κs =
+    let pre = c .before .before .before .before .before .before .before .before .before .before .before .before .before .before .before .before .pre in
+    let args = c .before .before .before .before .before .before .before .before .before .before .before .before .before .before .before .before .args in
+    let numbers = args .numbers .now in
+    let marks = args .marks .now in
+    let objectors = args .objectors .now in
+    let targets = args .targets .now in
+    let labels = args .labels .now in
+    let lengths = args .lengths .now in (
+      ready-lists (pre .0) numbers marks objectors targets labels lengths (pre .1),
+      omega (
+        arith,
+        whole-length numbers labels lengths objectors targets,
+        pre .2 (whole numbers objectors targets labels lengths)
+            (ready-listing (pre .0) numbers marks objectors targets labels lengths (pre .1)),
+      ),
+    )
 
 same-length : tie.Need-same-length
 same-length c = search needs
 
 returns : tie.Need-returns
-returns c R ready = let put = put-start (c .before .before .before .before .before .before .before .before .before .before .before .before .before .before .before .before .before .before .before .args .room .now) (whole (c .before .before .before .before .before .before .before .before .before .before .before .before .before .before .before .before .before .before .before .args .numbers .now) (c .before .before .before .before .before .before .before .before .before .before .before .before .before .before .before .before .before .before .before .args .objectors .now) (c .before .before .before .before .before .before .before .before .before .before .before .before .before .before .before .before .before .before .before .args .targets .now) (c .before .before .before .before .before .before .before .before .before .before .before .before .before .before .before .before .before .before .before .args .labels .now) (c .before .before .before .before .before .before .before .before .before .before .before .before .before .before .before .before .before .before .before .args .lengths .now)) (whole-put (c .before .before .before .before .before .before .before .before .before .before .before .before .before .before .before .before .before .before .before .args .room .now) (c .before .before .before .before .before .before .before .before .before .before .before .before .before .before .before .before .before .before .before .args .numbers .now) (c .before .before .before .before .before .before .before .before .before .before .before .before .before .before .before .before .before .before .before .args .objectors .now) (c .before .before .before .before .before .before .before .before .before .before .before .before .before .before .before .before .before .before .before .args .targets .now) (c .before .before .before .before .before .before .before .before .before .before .before .before .before .before .before .before .before .before .before .args .labels .now) (c .before .before .before .before .before .before .before .before .before .before .before .before .before .before .before .before .before .before .before .args .lengths .now) (omega (arith, whole-length (c .before .before .before .before .before .before .before .before .before .before .before .before .before .before .before .before .before .before .before .args .numbers .now) (c .before .before .before .before .before .before .before .before .before .before .before .before .before .before .before .before .before .before .before .args .labels .now) (c .before .before .before .before .before .before .before .before .before .before .before .before .before .before .before .before .before .before .before .args .lengths .now) (c .before .before .before .before .before .before .before .before .before .before .before .before .before .before .before .before .before .before .before .args .objectors .now) (c .before .before .before .before .before .before .before .before .before .before .before .before .before .before .before .before .before .before .before .args .targets .now), c .before .before .before .before .before .before .before .before .before .before .before .before .before .before .before .before .before .before .before .pre .2 (whole (c .before .before .before .before .before .before .before .before .before .before .before .before .before .before .before .before .before .before .before .args .numbers .now) (c .before .before .before .before .before .before .before .before .before .before .before .before .before .before .before .before .before .before .before .args .objectors .now) (c .before .before .before .before .before .before .before .before .before .before .before .before .before .before .before .before .before .before .before .args .targets .now) (c .before .before .before .before .before .before .before .before .before .before .before .before .before .before .before .before .before .before .before .args .labels .now) (c .before .before .before .before .before .before .before .before .before .before .before .before .before .before .before .before .before .before .before .args .lengths .now)) (ready-listing (c .before .before .before .before .before .before .before .before .before .before .before .before .before .before .before .before .before .before .before .pre .0) (c .before .before .before .before .before .before .before .before .before .before .before .before .before .before .before .before .before .before .before .args .numbers .now) (c .before .before .before .before .before .before .before .before .before .before .before .before .before .before .before .before .before .before .before .args .marks .now) (c .before .before .before .before .before .before .before .before .before .before .before .before .before .before .before .before .before .before .before .args .objectors .now) (c .before .before .before .before .before .before .before .before .before .before .before .before .before .before .before .before .before .before .before .args .targets .now) (c .before .before .before .before .before .before .before .before .before .before .before .before .before .before .before .before .before .before .before .args .labels .now) (c .before .before .before .before .before .before .before .before .before .before .before .before .before .before .before .before .before .before .before .args .lengths .now) (c .before .before .before .before .before .before .before .before .before .before .before .before .before .before .before .before .before .before .before .pre .1)))) (c .before .before .before .before .before .before .before .before .before .before .put-header .ensures) (c .before .before .before .before .before .before .put-statements .ensures) (c .before .before .put-objections .ensures)) in (whole (c .before .before .before .before .before .before .before .before .before .before .before .before .before .before .before .before .before .before .before .args .numbers .now) (c .before .before .before .before .before .before .before .before .before .before .before .before .before .before .before .before .before .before .before .args .objectors .now) (c .before .before .before .before .before .before .before .before .before .before .before .before .before .before .before .before .before .before .before .args .targets .now) (c .before .before .before .before .before .before .before .before .before .before .before .before .before .before .before .before .before .before .before .args .labels .now) (c .before .before .before .before .before .before .before .before .before .before .before .before .before .before .before .before .before .before .before .args .lengths .now), ready-listing R (c .before .before .before .before .before .before .before .before .before .before .before .before .before .before .before .before .before .before .before .args .numbers .now) (c .before .before .before .before .before .before .before .before .before .before .before .before .before .before .before .before .before .before .before .args .marks .now) (c .before .before .before .before .before .before .before .before .before .before .before .before .before .before .before .before .before .before .before .args .objectors .now) (c .before .before .before .before .before .before .before .before .before .before .before .before .before .before .before .before .before .before .before .args .targets .now) (c .before .before .before .before .before .before .before .before .before .before .before .before .before .before .before .before .before .before .before .args .labels .now) (c .before .before .before .before .before .before .before .before .before .before .before .before .before .before .before .before .before .before .before .args .lengths .now) ready, put .0, put .1)
+returns c R ready =
+    let args = c .before .before .before .before .before .before .before .before .before .before .before .before .before .before .before .before .before .before .before .args in
+    let pre = c .before .before .before .before .before .before .before .before .before .before .before .before .before .before .before .before .before .before .before .pre in
+    let put-header = c .before .before .before .before .before .before .before .before .before .before .put-header in
+    let put-statements = c .before .before .before .before .before .before .put-statements in
+    let room = args .room .now in
+    let numbers = args .numbers .now in
+    let objectors = args .objectors .now in
+    let targets = args .targets .now in
+    let labels = args .labels .now in
+    let lengths = args .lengths .now in
+    let marks = args .marks .now in
+    let put = put-start room (whole numbers objectors targets labels lengths)
+    (whole-put room numbers objectors targets labels lengths
+    (omega (
+      arith,
+      whole-length numbers labels lengths objectors targets,
+      pre .2 (whole numbers objectors targets labels lengths)
+          (ready-listing (pre .0) numbers marks objectors targets labels lengths (pre .1)),
+    )) (put-header .ensures)
+    (put-statements .ensures) (c .before .before .put-objections .ensures)) in (
+      whole numbers objectors targets labels lengths,
+      ready-listing R numbers marks objectors targets labels lengths ready,
+      put .0,
+      put .1,
+    )
 
 pub write-spec : {M : Type 1} → statement M
 write-spec =

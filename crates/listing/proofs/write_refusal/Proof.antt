@@ -11,13 +11,17 @@ slice-aggregate-put-numbers : tie.Need-slice-aggregate-put-numbers
 slice-aggregate-put-numbers c = search needs
 
 put-numbers-requires : tie.Need-put-numbers-requires
-put-numbers-requires c κs = omega (arith, refused-small (c .before .before .before .args .number) (c .before .before .before .args .place))
+put-numbers-requires c κs =
+    let args = c .before .before .before .args in
+    omega (arith, refused-small (args .number) (args .place))
 
 same-length : tie.Need-same-length
 same-length c = search needs
 
 returns : tie.Need-returns
-returns c = put-start (c .before .before .before .before .before .before .args .room .now) (refusedRow (c .before .before .before .before .before .before .args .number) (c .before .before .before .before .before .before .args .place)) (c .before .before .put-numbers .ensures)
+returns c =
+    let args = c .before .before .before .before .before .before .args in
+    put-start (args .room .now) (refusedRow (args .number) (args .place)) (c .before .before .put-numbers .ensures)
 
 pub write-refusal-spec : {M : Type 1} → statement M
 write-refusal-spec =

@@ -24,19 +24,45 @@ place-requires : tie.Need-place-requires
 place-requires c κs = search needs
 
 returns-2 : tie.Need-returns-2
-returns-2 c = let l : Lists (c .before .before .before .before .before .before .before .before .args .marks .now) (c .before .before .before .before .before .before .before .before .args .objectors .now) (c .before .before .before .before .before .before .before .before .args .targets .now) = rw (c .before .before .enum-told .given .1) at (c .before .before .before .before .check .ensures) in (unlisted _ _ _ l _ _ (c .before .place .ensures) _ _ (c .if1 .taken), refl)
+returns-2 c =
+    let args = c .before .before .before .before .before .before .before .before .args in
+    let l : Lists (args .marks .now) (args .objectors .now) (args .targets .now) = rw (c .before .before .enum-told .given .1) at
+    (c .before .before .before .before .check .ensures) in (
+      unlisted _ _ _ l _ _ (c .before .place .ensures) _ _
+          (c .if1 .taken),
+      refl,
+    )
 
 place-requires-2 : tie.Need-place-requires-2
 place-requires-2 c κs = search needs
 
 returns-3 : tie.Need-returns-3
-returns-3 c = let l : Lists (c .before .before .before .before .before .before .before .before .before .before .args .marks .now) (c .before .before .before .before .before .before .before .before .before .before .args .objectors .now) (c .before .before .before .before .before .before .before .before .before .before .args .targets .now) = rw (c .before .before .before .before .enum-told .given .1) at (c .before .before .before .before .before .before .check .ensures) in (too-many _ _ _ l _ _ (c .before .before .before .place .ensures) (c .before .before .if1 .left) _ _ _ (c .before .place2 .ensures) (c .if2 .taken), refl)
+returns-3 c =
+    let args = c .before .before .before .before .before .before .before .before .before .before .args in
+    let check = c .before .before .before .before .before .before .check in
+    let l : Lists (args .marks .now) (args .objectors .now) (args .targets .now) = rw
+    (c .before .before .before .before .enum-told .given .1) at (check .ensures) in (
+      too-many _ _ _ l _ _ (c .before .before .before .place .ensures) (c .before .before .if1 .left) _ _ _
+          (c .before .place2 .ensures) (c .if2 .taken),
+      refl,
+    )
 
 answer-requires : tie.Need-answer-requires
-answer-requires c κs = let l : Lists (c .before .before .before .before .before .before .before .before .before .before .args .marks .now) (c .before .before .before .before .before .before .before .before .before .before .args .objectors .now) (c .before .before .before .before .before .before .before .before .before .before .args .targets .now) = rw (c .before .before .before .before .enum-told .given .1) at (c .before .before .before .before .before .before .check .ensures) in (handed _ _ _ l, c .before .before .if1 .left, c .if2 .left)
+answer-requires c κs =
+    let args = c .before .before .before .before .before .before .before .before .before .before .args in
+    let check = c .before .before .before .before .before .before .check in
+    let l : Lists (args .marks .now) (args .objectors .now) (args .targets .now) = rw
+    (c .before .before .before .before .enum-told .given .1) at (check .ensures) in
+    (handed _ _ _ l, c .before .before .if1 .left, c .if2 .left)
 
 returns-4 : tie.Need-returns-4
-returns-4 c = let l : Lists (c .before .before .before .before .before .before .before .before .before .before .before .args .marks .now) (c .before .before .before .before .before .before .before .before .before .before .before .args .objectors .now) (c .before .before .before .before .before .before .before .before .before .before .before .args .targets .now) = rw (c .before .before .before .before .before .enum-told .given .1) at (c .before .before .before .before .before .before .before .check .ensures) in exercise-given _ _ _ l _ _ (c .before .before .before .before .place .ensures) (c .before .before .before .if1 .left) _ _ _ (c .before .before .place2 .ensures) (c .before .if2 .left) (c .answer .ensures)
+returns-4 c =
+    let args = c .before .before .before .before .before .before .before .before .before .before .before .args in
+    let check = c .before .before .before .before .before .before .before .check in
+    let enum-told = c .before .before .before .before .before .enum-told in
+    let l : Lists (args .marks .now) (args .objectors .now) (args .targets .now) = rw (enum-told .given .1) at (check .ensures) in
+    exercise-given _ _ _ l _ _ (c .before .before .before .before .place .ensures) (c .before .before .before .if1 .left) _ _
+    _ (c .before .before .place2 .ensures) (c .before .if2 .left) (c .answer .ensures)
 
 pub pairs-exercise-spec : {M : Type 1} → statement M
 pairs-exercise-spec =

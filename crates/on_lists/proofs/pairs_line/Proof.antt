@@ -26,7 +26,14 @@ place-requires : tie.Need-place-requires
 place-requires c κs = search needs
 
 returns-2 : tie.Need-returns-2
-returns-2 c = let l : Lists (c .before .before .before .before .before .before .before .before .before .args .marks .now) (c .before .before .before .before .before .before .before .before .before .args .objectors .now) (c .before .before .before .before .before .before .before .before .before .args .targets .now) = rw (c .before .before .enum-told .given .1) at (c .before .before .before .before .check .ensures) in (unlisted _ _ _ l _ _ (c .before .place .ensures) _ _ (c .if1 .taken), refl)
+returns-2 c =
+    let args = c .before .before .before .before .before .before .before .before .before .args in
+    let l : Lists (args .marks .now) (args .objectors .now) (args .targets .now) = rw (c .before .before .enum-told .given .1) at
+    (c .before .before .before .before .check .ensures) in (
+      unlisted _ _ _ l _ _ (c .before .place .ensures) _ _
+          (c .if1 .taken),
+      refl,
+    )
 
 slice-aggregate-solve : tie.Need-slice-aggregate-solve
 slice-aggregate-solve c = search needs
@@ -35,7 +42,12 @@ slice-aggregate-solve-2 : tie.Need-slice-aggregate-solve-2
 slice-aggregate-solve-2 c = search needs
 
 solve-requires : tie.Need-solve-requires
-solve-requires c κs = let l : Lists (c .before .before .before .before .before .before .before .before .before .before .before .args .marks .now) (c .before .before .before .before .before .before .before .before .before .before .before .args .objectors .now) (c .before .before .before .before .before .before .before .before .before .before .before .args .targets .now) = rw (c .before .before .before .before .enum-told .given .1) at (c .before .before .before .before .before .before .check .ensures) in (handed _ _ _ l, (l .few-marks, l .few-marks))
+solve-requires c κs =
+    let args = c .before .before .before .before .before .before .before .before .before .before .before .args in
+    let check = c .before .before .before .before .before .before .check in
+    let l : Lists (args .marks .now) (args .objectors .now) (args .targets .now) = rw
+    (c .before .before .before .before .enum-told .given .1) at (check .ensures) in
+    (handed _ _ _ l, (l .few-marks, l .few-marks))
 
 slice-aggregate-line : tie.Need-slice-aggregate-line
 slice-aggregate-line c = search needs
@@ -44,22 +56,57 @@ slice-aggregate-line-2 : tie.Need-slice-aggregate-line-2
 slice-aggregate-line-2 c = search needs
 
 line-requires : tie.Need-line-requires
-line-requires c κs = let l : Lists (c .before .before .before .before .before .before .before .before .before .before .before .before .before .before .before .before .before .args .marks .now) (c .before .before .before .before .before .before .before .before .before .before .before .before .before .before .before .before .before .args .objectors .now) (c .before .before .before .before .before .before .before .before .before .before .before .before .before .before .before .before .before .args .targets .now) = rw (c .before .before .before .before .before .before .before .before .before .before .enum-told .given .1) at (c .before .before .before .before .before .before .before .before .before .before .before .before .check .ensures) in (settled _ _ _ l _ _ _ _ (c .before .before .before .before .before .solve .ensures) (omega (arith, c .before .before .before .before .before .solve .kept .1 .1 .1 .0)) (omega (arith, c .before .before .before .before .before .solve .kept .1 .1 .1 .1 .0)), c .before .before .before .before .before .before .before .before .if1 .left)
+line-requires c κs =
+    let args = c .before .before .before .before .before .before .before .before .before .before .before .before .before .before .before .before .before .args in
+    let check = c .before .before .before .before .before .before .before .before .before .before .before .before .check in
+    let enum-told = c .before .before .before .before .before .before .before .before .before .before .enum-told in
+    let if1 = c .before .before .before .before .before .before .before .before .if1 in
+    let solve = c .before .before .before .before .before .solve in
+    let l : Lists (args .marks .now) (args .objectors .now) (args .targets .now) = rw (enum-told .given .1) at (check .ensures) in (
+      settled _ _ _ l _ _ _ _ (solve .ensures) (omega (arith, solve .kept .1 .1 .1 .0))
+          (omega (arith, solve .kept .1 .1 .1 .1 .0)),
+      if1 .left,
+    )
 
 same-length : tie.Need-same-length
 same-length c = search needs
 
 returns-3 : tie.Need-returns-3
-returns-3 c = let l : Lists (c .before .before .before .before .before .before .before .before .before .before .before .before .before .before .before .before .before .before .before .before .before .args .marks .now) (c .before .before .before .before .before .before .before .before .before .before .before .before .before .before .before .before .before .before .before .before .before .args .objectors .now) (c .before .before .before .before .before .before .before .before .before .before .before .before .before .before .before .before .before .before .before .before .before .args .targets .now) = rw (c .before .before .before .before .before .before .before .before .before .before .before .before .before .before .enum-told .given .1) at (c .before .before .before .before .before .before .before .before .before .before .before .before .before .before .before .before .check .ensures) in line-short _ _ _ l _ _ (c .before .before .before .before .before .before .before .before .before .before .before .before .before .place .ensures) (c .before .before .before .before .before .before .before .before .before .before .before .before .if1 .left) _ _ _ (c .before .before .before .line .ensures) (c .before .before .before .line .kept .1 .1 .1 .1 .1 .1 .0) (c .if2 .taken)
+returns-3 c =
+    let args = c .before .before .before .before .before .before .before .before .before .before .before .before .before .before .before .before .before .before .before .before .before .args in
+    let check = c .before .before .before .before .before .before .before .before .before .before .before .before .before .before .before .before .check in
+    let enum-told = c .before .before .before .before .before .before .before .before .before .before .before .before .before .before .enum-told in
+    let place = c .before .before .before .before .before .before .before .before .before .before .before .before .before .place in
+    let if1 = c .before .before .before .before .before .before .before .before .before .before .before .before .if1 in
+    let line = c .before .before .before .line in
+    let l : Lists (args .marks .now) (args .objectors .now) (args .targets .now) = rw (enum-told .given .1) at (check .ensures) in
+    line-short _ _ _ l _ _ (place .ensures) (if1 .left) _ _ _ (line .ensures) (line .kept .1 .1 .1 .1 .1 .1 .0)
+    (c .if2 .taken)
 
 cast-t27 : tie.Need-cast-t27
-cast-t27 c = let l : Lists (c .before .before .before .before .before .before .before .before .before .before .before .before .before .before .before .before .before .before .before .before .before .args .marks .now) (c .before .before .before .before .before .before .before .before .before .before .before .before .before .before .before .before .before .before .before .before .before .args .objectors .now) (c .before .before .before .before .before .before .before .before .before .before .before .before .before .before .before .before .before .before .before .before .before .args .targets .now) = rw (c .before .before .before .before .before .before .before .before .before .before .before .before .before .before .enum-told .given .1) at (c .before .before .before .before .before .before .before .before .before .before .before .before .before .before .before .before .check .ensures) in omega (arith, line-few _ _ _ l _ _ (c .before .before .before .before .before .before .before .before .before .before .before .before .before .place .ensures) (c .before .before .before .before .before .before .before .before .before .before .before .before .if1 .left) _ _ _ (c .before .before .before .line .ensures) (c .before .before .before .line .kept .1 .1 .1 .1 .1 .1 .0))
+cast-t27 c =
+    let args = c .before .before .before .before .before .before .before .before .before .before .before .before .before .before .before .before .before .before .before .before .before .args in
+    let check = c .before .before .before .before .before .before .before .before .before .before .before .before .before .before .before .before .check in
+    let enum-told = c .before .before .before .before .before .before .before .before .before .before .before .before .before .before .enum-told in
+    let place = c .before .before .before .before .before .before .before .before .before .before .before .before .before .place in
+    let if1 = c .before .before .before .before .before .before .before .before .before .before .before .before .if1 in
+    let line = c .before .before .before .line in
+    let l : Lists (args .marks .now) (args .objectors .now) (args .targets .now) = rw (enum-told .given .1) at (check .ensures) in
+    omega (arith, line-few _ _ _ l _ _ (place .ensures) (if1 .left) _ _ _ (line .ensures) (line .kept .1 .1 .1 .1 .1 .1 .0))
 
 same-length-2 : tie.Need-same-length-2
 same-length-2 c = search needs
 
 returns-4 : tie.Need-returns-4
-returns-4 c = let l : Lists (c .before .before .before .before .before .before .before .before .before .before .before .before .before .before .before .before .before .before .before .before .before .args .marks .now) (c .before .before .before .before .before .before .before .before .before .before .before .before .before .before .before .before .before .before .before .before .before .args .objectors .now) (c .before .before .before .before .before .before .before .before .before .before .before .before .before .before .before .before .before .before .before .before .before .args .targets .now) = rw (c .before .before .before .before .before .before .before .before .before .before .before .before .before .before .enum-told .given .1) at (c .before .before .before .before .before .before .before .before .before .before .before .before .before .before .before .before .check .ensures) in line-given _ _ _ l _ _ (c .before .before .before .before .before .before .before .before .before .before .before .before .before .place .ensures) (c .before .before .before .before .before .before .before .before .before .before .before .before .if1 .left) _ _ _ (c .before .before .before .line .ensures) (c .before .before .before .line .kept .1 .1 .1 .1 .1 .1 .0) (c .if2 .left)
+returns-4 c =
+    let args = c .before .before .before .before .before .before .before .before .before .before .before .before .before .before .before .before .before .before .before .before .before .args in
+    let check = c .before .before .before .before .before .before .before .before .before .before .before .before .before .before .before .before .check in
+    let enum-told = c .before .before .before .before .before .before .before .before .before .before .before .before .before .before .enum-told in
+    let place = c .before .before .before .before .before .before .before .before .before .before .before .before .before .place in
+    let if1 = c .before .before .before .before .before .before .before .before .before .before .before .before .if1 in
+    let line = c .before .before .before .line in
+    let l : Lists (args .marks .now) (args .objectors .now) (args .targets .now) = rw (enum-told .given .1) at (check .ensures) in
+    line-given _ _ _ l _ _ (place .ensures) (if1 .left) _ _ _ (line .ensures) (line .kept .1 .1 .1 .1 .1 .1 .0) (c .if2 .left)
 
 pub pairs-line-spec : {M : Type 1} → statement M
 pairs-line-spec =

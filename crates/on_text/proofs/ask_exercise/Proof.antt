@@ -16,13 +16,23 @@ place-requires : tie.Need-place-requires
 place-requires c κs = search needs
 
 returns-2 : tie.Need-returns-2
-returns-2 c = λ R made. (too-many R _ _ _ _ made _ _ (c .before .before .before .find .ensures) (c .before .before .if1 .left) _ _ (c .before .place .ensures) (c .if2 .taken), refl)
+returns-2 c =
+    λ R made. (
+      too-many R _ _ _ _ made _ _ (c .before .before .before .find .ensures) (c .before .before .if1 .left) _ _
+          (c .before .place .ensures) (c .if2 .taken),
+      refl,
+    )
 
 answer-requires : tie.Need-answer-requires
-answer-requires c κs = (lists-handed _ _ _ _ _ (c .before .before .before .before .before .before .before .before .pre .1), omega (arith, c .before .before .if1 .left, counted _ _ _ _ _ (c .before .before .before .before .before .before .before .before .pre .1)), c .if2 .left)
+answer-requires c κs =
+    let pre = c .before .before .before .before .before .before .before .before .pre in
+    (lists-handed _ _ _ _ _ (pre .1), omega (arith, c .before .before .if1 .left, counted _ _ _ _ _ (pre .1)), c .if2 .left)
 
 returns-3 : tie.Need-returns-3
-returns-3 c = λ R made. exercise-given R _ _ _ _ made _ _ (c .before .before .before .before .find .ensures) (c .before .before .before .if1 .left) _ _ _ (c .before .before .place .ensures) (c .before .if2 .left) (c .answer .ensures)
+returns-3 c =
+    λ R made. exercise-given R _ _ _ _ made _ _ (c .before .before .before .before .find .ensures)
+    (c .before .before .before .if1 .left) _ _ _ (c .before .before .place .ensures) (c .before .if2 .left)
+    (c .answer .ensures)
 
 pub ask-exercise-spec : {M : Type 1} → statement M
 ask-exercise-spec =

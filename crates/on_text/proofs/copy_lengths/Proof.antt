@@ -30,7 +30,8 @@ mul-room-2 : tie.Need-mul-room-2 Inv-loop μ-loop
 mul-room-2 c = search needs
 
 slice-write-room : tie.Need-slice-write-room Inv-loop μ-loop
-slice-write-room c = omega (arith, c .before .before .loop .inv .1 .same, c .before .before .before .pre .1, c .before .loop-test .taken)
+slice-write-room c =
+    omega (arith, c .before .before .loop .inv .1 .same, c .before .before .before .pre .1, c .before .loop-test .taken)
 
 add-k : tie.Need-add-k Inv-loop μ-loop
 add-k c = search needs
@@ -39,7 +40,8 @@ loop-less : tie.Need-loop-less Inv-loop μ-loop
 loop-less c = search needs
 
 loop-again : tie.Need-loop-again Inv-loop μ-loop
-loop-again c = (omega arith, begins-more _ _ _ _ _ (c .before .before .loop .inv .1) (omega (arith, c .before .before .before .pre .1)) refl)
+loop-again c =
+    (omega arith, begins-more _ _ _ _ _ (c .before .before .loop .inv .1) (omega (arith, c .before .before .before .pre .1)) refl)
 
 same-length : tie.Need-same-length Inv-loop μ-loop
 same-length c = c .before .loop .inv .1 .same

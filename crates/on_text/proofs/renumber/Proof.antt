@@ -22,22 +22,42 @@ mul-place : tie.Need-mul-place Inv-loop μ-loop
 mul-place c = search needs
 
 slice-read-place : tie.Need-slice-read-place Inv-loop μ-loop
-slice-read-place c = omega (arith, c .before .before .loop .inv .1 .same, c .before .before .before .before .before .pre .0, c .before .loop-test .taken)
+slice-read-place c =
+    let pre = c .before .before .before .before .before .pre in
+    omega (arith, c .before .before .loop .inv .1 .same, pre .0, c .before .loop-test .taken)
 
 place-requires : tie.Need-place-requires Inv-loop μ-loop
 place-requires c κs = search needs
 
 mul-line : tie.Need-mul-line Inv-loop μ-loop
-mul-line c = omega (arith, c .place .ensures, c .before .before .before .loop .inv .1 .rest (c .before .before .before .loop .k) (omega arith), c .before .before .before .before .before .before .pre .1 (c .before .before .before .loop .k) (c .before .before .loop-test .taken))
+mul-line c =
+    let pre = c .before .before .before .before .before .before .pre in
+    let loop = c .before .before .before .loop in
+    omega (
+      arith,
+      c .place .ensures,
+      loop .inv .1 .rest (loop .k) (omega arith),
+      pre .1 (loop .k) (c .before .before .loop-test .taken),
+    )
 
 shared-slice-read-line : tie.Need-shared-slice-read-line Inv-loop μ-loop
-shared-slice-read-line c = omega (arith, c .before .place .ensures, c .before .before .before .before .loop .inv .1 .rest (c .before .before .before .before .loop .k) (omega arith), c .before .before .before .before .before .before .before .pre .1 (c .before .before .before .before .loop .k) (c .before .before .before .loop-test .taken))
+shared-slice-read-line c =
+    let pre = c .before .before .before .before .before .before .before .pre in
+    let loop = c .before .before .before .before .loop in
+    omega (
+      arith,
+      c .before .place .ensures,
+      loop .inv .1 .rest (loop .k) (omega arith),
+      pre .1 (loop .k) (c .before .before .before .loop-test .taken),
+    )
 
 mul-line-2 : tie.Need-mul-line-2 Inv-loop μ-loop
 mul-line-2 c = search needs
 
 slice-write-line : tie.Need-slice-write-line Inv-loop μ-loop
-slice-write-line c = omega (arith, c .before .before .before .before .loop .inv .1 .same, c .before .before .before .before .before .before .before .pre .0, c .before .before .before .loop-test .taken)
+slice-write-line c =
+    let pre = c .before .before .before .before .before .before .before .pre in
+    omega (arith, c .before .before .before .before .loop .inv .1 .same, pre .0, c .before .before .before .loop-test .taken)
 
 add-k : tie.Need-add-k Inv-loop μ-loop
 add-k c = search needs
@@ -46,13 +66,23 @@ loop-less : tie.Need-loop-less Inv-loop μ-loop
 loop-less c = search needs
 
 loop-again : tie.Need-loop-again Inv-loop μ-loop
-loop-again c = (search needs, begins-more (λ k e. e ≡ getD (c .before .before .before .before .before .before .before .args .numbers .now) (getD (c .before .before .before .before .before .before .before .args .line .now) k 0) 0) _ _ _ _ (c .before .before .before .before .loop .inv .1) (omega (arith, c .before .before .before .before .before .before .before .pre .0, c .before .before .before .loop-test .taken)) (ap (λ i. getD (c .before .before .before .before .before .before .before .args .numbers .now) i 0) (c .before .place .ensures ∙ c .before .before .before .before .loop .inv .1 .rest (c .before .before .before .before .loop .k) (omega arith))))
+loop-again c =
+    let args = c .before .before .before .before .before .before .before .args in
+    let pre = c .before .before .before .before .before .before .before .pre in
+    let loop = c .before .before .before .before .loop in
+    let numbers = args .numbers .now in (
+      search needs,
+      begins-more (λ k e. e ≡ getD numbers (getD (args .line .now) k 0) 0) _ _ _ _ (loop .inv .1)
+          (omega (arith, pre .0, c .before .before .before .loop-test .taken))
+          (ap (λ i. getD numbers i 0) (c .before .place .ensures ∙ loop .inv .1 .rest (loop .k) (omega arith))),
+    )
 
 same-length : tie.Need-same-length Inv-loop μ-loop
 same-length c = c .before .loop .inv .1 .same
 
 returns : tie.Need-returns Inv-loop μ-loop
-returns c = let h : c .before .loop .k ≡ c .before .before .before .before .args .n = omega arith in rw h at (c .before .loop .inv .1)
+returns c =
+    let h : c .before .loop .k ≡ c .before .before .before .before .args .n = omega arith in rw h at (c .before .loop .inv .1)
 
 pub renumber-spec : {M : Type 1} → statement M
 renumber-spec =

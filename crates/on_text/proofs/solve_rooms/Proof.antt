@@ -6,16 +6,24 @@ use Rattle.on_text.proofs.solve_rooms.Statement.{statement}
 use Rattle.on_text.proofs.solve_rooms.Tie as tie
 
 slice-aggregate-solve : tie.Need-slice-aggregate-solve
-slice-aggregate-solve c = sym (part-length _ _ (c .before .before .before .before .before .before .pre .0 .0))
+slice-aggregate-solve c =
+    let pre = c .before .before .before .before .before .before .pre in
+    sym (part-length _ _ (pre .0 .0))
 
 slice-aggregate-solve-2 : tie.Need-slice-aggregate-solve-2
-slice-aggregate-solve-2 c = sym (part-length _ _ (c .before .before .before .before .before .before .before .pre .0 .1))
+slice-aggregate-solve-2 c =
+    let pre = c .before .before .before .before .before .before .before .pre in
+    sym (part-length _ _ (pre .0 .1))
 
 slice-aggregate-solve-3 : tie.Need-slice-aggregate-solve-3
-slice-aggregate-solve-3 c = sym (part-length _ _ (c .before .before .before .before .before .before .before .before .pre .0 .2))
+slice-aggregate-solve-3 c =
+    let pre = c .before .before .before .before .before .before .before .before .pre in
+    sym (part-length _ _ (pre .0 .2))
 
 solve-requires : tie.Need-solve-requires
-solve-requires c κs = (c .before .before .before .before .before .before .before .before .before .before .pre .1 .0, (rw (part-length _ _ (c .before .before .before .before .before .before .before .before .before .before .pre .0 .0)) (c .before .before .before .before .before .before .before .before .before .before .pre .1 .1 .0), rw (part-length _ _ (c .before .before .before .before .before .before .before .before .before .before .pre .0 .0)) (c .before .before .before .before .before .before .before .before .before .before .pre .1 .1 .1)))
+solve-requires c κs =
+    let pre = c .before .before .before .before .before .before .before .before .before .before .pre in
+    (pre .1 .0, (rw (part-length _ _ (pre .0 .0)) (pre .1 .1 .0), rw (part-length _ _ (pre .0 .0)) (pre .1 .1 .1)))
 
 same-length : tie.Need-same-length
 same-length c = search needs

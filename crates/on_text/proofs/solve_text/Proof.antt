@@ -15,7 +15,25 @@ enum-known-reading-2 : tie.Need-enum-known-reading-2
 enum-known-reading-2 c = search needs
 
 solve-rooms-requires : tie.Need-solve-rooms-requires
-solve-rooms-requires c κs = let f = few (c .before .before .before .before .before .before .before .before .before .before .before .before .before .before .before .before .before .before .before .before .before .before .before .before .before .before .before .before .args .text .now) (c .before .before .before .before .before .before .before .before .before .before .before .before .before .before .before .before .read .last .1 .0) (c .before .before .before .before .before .before .before .before .before .before .before .before .before .before .before .before .read .last .1 .1 .0) (c .before .before .before .before .before .before .before .before .before .before .before .before .before .before .before .before .read .last .1 .1 .1 .0) (c .before .before .before .before .before .before .before .before .before .before .before .before .before .before .before .before .read .last .1 .1 .1 .1 .0) (c .before .before .before .before .before .before .reading2 .given .0 .0) (c .before .before .before .before .before .before .reading2 .given .0 .1 .0) (rw (c .before .before .before .before .before .before .reading2 .given .1) at (c .before .before .before .before .before .before .before .before .before .before .before .before .before .before .before .before .read .ensures)) in ((omega (arith, c .before .before .before .before .before .before .before .before .before .before .before .before .before .before .before .before .read .kept .1 .1 .0, c .before .before .before .before .before .before .before .before .before .before .before .before .before .before .before .before .before .before .before .before .before .before .before .before .before .before .before .before .pre .0 .marks-room), omega (arith, c .before .before .before .before .before .before .before .before .before .before .before .before .before .before .before .before .read .kept .1 .1 .1 .0, c .before .before .before .before .before .before .before .before .before .before .before .before .before .before .before .before .before .before .before .before .before .before .before .before .before .before .before .before .pre .0 .objectors-room), omega (arith, c .before .before .before .before .before .before .before .before .before .before .before .before .before .before .before .before .read .kept .1 .1 .1 .1 .0, c .before .before .before .before .before .before .before .before .before .before .before .before .before .before .before .before .before .before .before .before .before .before .before .before .before .before .before .before .pre .0 .targets-room)), (rooms-handed (c .before .before .before .before .before .before .before .before .before .before .before .before .before .before .before .before .before .before .before .before .before .before .before .before .before .before .before .before .args .text .now) (c .before .before .before .before .before .before .before .before .before .before .before .before .before .before .before .before .read .last .1 .0) (c .before .before .before .before .before .before .before .before .before .before .before .before .before .before .before .before .read .last .1 .1 .0) (c .before .before .before .before .before .before .before .before .before .before .before .before .before .before .before .before .read .last .1 .1 .1 .0) (c .before .before .before .before .before .before .before .before .before .before .before .before .before .before .before .before .read .last .1 .1 .1 .1 .0) (c .before .before .before .before .before .before .reading2 .given .0 .0) (c .before .before .before .before .before .before .reading2 .given .0 .1 .0) (rw (c .before .before .before .before .before .before .reading2 .given .1) at (c .before .before .before .before .before .before .before .before .before .before .before .before .before .before .before .before .read .ensures)), (omega (arith, c .before .before .before .before .before .before .before .before .before .before .before .before .before .before .before .before .before .before .before .before .before .before .before .before .before .before .before .before .pre .1 .0), omega (arith, c .before .before .before .before .before .before .before .before .before .before .before .before .before .before .before .before .before .before .before .before .before .before .before .before .before .before .before .before .pre .1 .1))))
+solve-rooms-requires c κs =
+    let args = c .before .before .before .before .before .before .before .before .before .before .before .before .before .before .before .before .before .before .before .before .before .before .before .before .before .before .before .before .args in
+    let pre = c .before .before .before .before .before .before .before .before .before .before .before .before .before .before .before .before .before .before .before .before .before .before .before .before .before .before .before .before .pre in
+    let read = c .before .before .before .before .before .before .before .before .before .before .before .before .before .before .before .before .read in
+    let reading2 = c .before .before .before .before .before .before .reading2 in
+    let text = args .text .now in
+    let f = few text (read .last .1 .0) (read .last .1 .1 .0) (read .last .1 .1 .1 .0) (read .last .1 .1 .1 .1 .0)
+    (reading2 .given .0 .0) (reading2 .given .0 .1 .0) (rw (reading2 .given .1) at (read .ensures)) in (
+      (
+        omega (arith, read .kept .1 .1 .0, pre .0 .marks-room),
+        omega (arith, read .kept .1 .1 .1 .0, pre .0 .objectors-room),
+        omega (arith, read .kept .1 .1 .1 .1 .0, pre .0 .targets-room),
+      ),
+      (
+        rooms-handed text (read .last .1 .0) (read .last .1 .1 .0) (read .last .1 .1 .1 .0) (read .last .1 .1 .1 .1 .0)
+            (reading2 .given .0 .0) (reading2 .given .0 .1 .0) (rw (reading2 .given .1) at (read .ensures)),
+        (omega (arith, pre .1 .0), omega (arith, pre .1 .1)),
+      ),
+    )
 
 same-length : tie.Need-same-length
 same-length c = search needs
@@ -30,7 +48,9 @@ same-length-4 : tie.Need-same-length-4
 same-length-4 c = search needs
 
 returns : tie.Need-returns
-returns c = rw (c .before .reading .given .1) at (c .before .before .before .before .before .before .before .before .before .before .before .read .ensures)
+returns c =
+    let read = c .before .before .before .before .before .before .before .before .before .before .before .read in
+    rw (c .before .reading .given .1) at (read .ensures)
 
 same-length-5 : tie.Need-same-length-5
 same-length-5 c = search needs
@@ -51,7 +71,13 @@ same-length-10 : tie.Need-same-length-10
 same-length-10 c = search needs
 
 returns-2 : tie.Need-returns-2
-returns-2 c = rooms-solved (c .before .before .before .before .before .before .before .before .before .before .before .before .before .before .before .before .before .before .before .before .before .before .before .before .before .before .before .before .before .before .before .before .before .args .text .now) (c .before .before .before .before .before .before .before .before .before .before .before .before .before .before .before .before .before .before .before .before .before .read .last .1 .0) (c .before .before .before .before .before .before .before .before .before .before .before .before .before .before .before .before .before .before .before .before .before .read .last .1 .1 .0) (c .before .before .before .before .before .before .before .before .before .before .before .before .before .before .before .before .before .before .before .before .before .read .last .1 .1 .1 .0) (c .before .before .before .before .before .before .before .before .before .before .before .before .before .before .before .before .before .before .before .before .before .read .last .1 .1 .1 .1 .0) (c .before .before .before .before .before .before .before .before .before .before .before .reading2 .given .0 .0) (c .before .before .before .before .before .before .before .before .before .before .before .reading2 .given .0 .1 .0) (rw (c .before .before .before .before .before .before .before .before .before .before .before .reading2 .given .1) at (c .before .before .before .before .before .before .before .before .before .before .before .before .before .before .before .before .before .before .before .before .before .read .ensures)) _ _ _ _ (c .before .before .before .before .solve-rooms .ensures)
+returns-2 c =
+    let args = c .before .before .before .before .before .before .before .before .before .before .before .before .before .before .before .before .before .before .before .before .before .before .before .before .before .before .before .before .before .before .before .before .before .args in
+    let read = c .before .before .before .before .before .before .before .before .before .before .before .before .before .before .before .before .before .before .before .before .before .read in
+    let reading2 = c .before .before .before .before .before .before .before .before .before .before .before .reading2 in
+    rooms-solved (args .text .now) (read .last .1 .0) (read .last .1 .1 .0) (read .last .1 .1 .1 .0) (read .last .1 .1 .1 .1 .0)
+    (reading2 .given .0 .0) (reading2 .given .0 .1 .0) (rw (reading2 .given .1) at (read .ensures)) _ _ _ _
+    (c .before .before .before .before .solve-rooms .ensures)
 
 pub solve-text-spec : {M : Type 1} → statement M
 solve-text-spec =

@@ -40,13 +40,30 @@ slice-aggregate-exercise-rooms-4 : tie.Need-slice-aggregate-exercise-rooms-4
 slice-aggregate-exercise-rooms-4 c = search needs
 
 exercise-rooms-requires : tie.Need-exercise-rooms-requires
-exercise-rooms-requires c κs = (record { numbers-room = omega (arith, c .before .before .before .before .before .before .before .before .before .before .before .read .kept .1 .0); marks-room = omega (arith, c .before .before .before .before .before .before .before .before .before .before .before .read .kept .1 .1 .0); objectors-room = omega (arith, c .before .before .before .before .before .before .before .before .before .before .before .read .kept .1 .1 .1 .0); targets-room = omega (arith, c .before .before .before .before .before .before .before .before .before .before .before .read .kept .1 .1 .1 .1 .0) }, (c .before .before .before .before .before .before .before .before .before .before .before .before .before .before .before .before .before .args .text .now, rw (c .before .before .before .before .before .reading2 .given .1) at (c .before .before .before .before .before .before .before .before .before .before .before .read .ensures)))
+exercise-rooms-requires c κs =
+    let args = c .before .before .before .before .before .before .before .before .before .before .before .before .before .before .before .before .before .args in
+    let read = c .before .before .before .before .before .before .before .before .before .before .before .read in
+    let reading2 = c .before .before .before .before .before .reading2 in (
+      record {
+        numbers-room = omega (arith, read .kept .1 .0);
+        marks-room = omega (arith, read .kept .1 .1 .0);
+        objectors-room = omega (arith, read .kept .1 .1 .1 .0);
+        targets-room = omega (arith, read .kept .1 .1 .1 .1 .0);
+      },
+      (args .text .now, rw (reading2 .given .1) at (read .ensures)),
+    )
 
 returns : tie.Need-returns
-returns c = (inl (rw (c .before .reading .given .1) at (c .before .before .before .before .before .before .before .read .ensures)), refl)
+returns c =
+    let read = c .before .before .before .before .before .before .before .read in
+    (inl (rw (c .before .reading .given .1) at (read .ensures)), refl)
 
 returns-2 : tie.Need-returns-2
-returns-2 c = c .exercise-rooms .ensures (c .before .before .before .before .before .before .before .before .before .before .before .before .before .before .before .before .before .before .args .text .now) (rw (c .before .before .before .before .before .before .reading2 .given .1) at (c .before .before .before .before .before .before .before .before .before .before .before .before .read .ensures))
+returns-2 c =
+    let args = c .before .before .before .before .before .before .before .before .before .before .before .before .before .before .before .before .before .before .args in
+    let read = c .before .before .before .before .before .before .before .before .before .before .before .before .read in
+    let reading2 = c .before .before .before .before .before .before .reading2 in
+    c .exercise-rooms .ensures (args .text .now) (rw (reading2 .given .1) at (read .ensures))
 
 pub text-exercise-spec : {M : Type 1} → statement M
 text-exercise-spec =

@@ -52,16 +52,36 @@ slice-aggregate-list-rooms-6 : tie.Need-slice-aggregate-list-rooms-6
 slice-aggregate-list-rooms-6 c = search needs
 
 list-rooms-requires : tie.Need-list-rooms-requires
-list-rooms-requires c κs = (record { numbers-room = omega (arith, c .before .before .before .before .before .before .before .before .before .before .before .before .before .before .before .before .solve-text .kept .1 .0); marks-room = omega (arith, c .before .before .before .before .before .before .before .before .before .before .before .before .before .before .before .before .solve-text .kept .1 .1 .0); objectors-room = omega (arith, c .before .before .before .before .before .before .before .before .before .before .before .before .before .before .before .before .solve-text .kept .1 .1 .1 .0); targets-room = omega (arith, c .before .before .before .before .before .before .before .before .before .before .before .before .before .before .before .before .solve-text .kept .1 .1 .1 .1 .0) }, ((omega (arith, c .before .before .before .before .before .before .before .before .before .before .before .before .before .before .before .before .solve-text .kept .1 .1 .1 .1 .1 .0), omega (arith, c .before .before .before .before .before .before .before .before .before .before .before .before .before .before .before .before .solve-text .kept .1 .1 .1 .1 .1 .1 .0)), (c .before .before .before .before .before .before .before .before .before .before .before .before .before .before .before .before .before .before .before .before .before .before .before .before .before .args .text .now, rw (c .before .before .before .before .before .before .before .before .reading2 .given .1) at (c .before .before .before .before .before .before .before .before .before .before .before .before .before .before .before .before .solve-text .ensures))))
+list-rooms-requires c κs =
+    let args = c .before .before .before .before .before .before .before .before .before .before .before .before .before .before .before .before .before .before .before .before .before .before .before .before .before .args in
+    let solve-text = c .before .before .before .before .before .before .before .before .before .before .before .before .before .before .before .before .solve-text in
+    let reading2 = c .before .before .before .before .before .before .before .before .reading2 in (
+      record {
+        numbers-room = omega (arith, solve-text .kept .1 .0);
+        marks-room = omega (arith, solve-text .kept .1 .1 .0);
+        objectors-room = omega (arith, solve-text .kept .1 .1 .1 .0);
+        targets-room = omega (arith, solve-text .kept .1 .1 .1 .1 .0);
+      },
+      (
+        (omega (arith, solve-text .kept .1 .1 .1 .1 .1 .0), omega (arith, solve-text .kept .1 .1 .1 .1 .1 .1 .0)),
+        (args .text .now, rw (reading2 .given .1) at (solve-text .ensures)),
+      ),
+    )
 
 returns : tie.Need-returns
-returns c = (inl (rw (c .before .reading .given .1) at (c .before .before .before .before .before .before .before .before .before .solve-text .ensures)), refl)
+returns c =
+    let solve-text = c .before .before .before .before .before .before .before .before .before .solve-text in
+    (inl (rw (c .before .reading .given .1) at (solve-text .ensures)), refl)
 
 same-length : tie.Need-same-length
 same-length c = search needs
 
 returns-2 : tie.Need-returns-2
-returns-2 c = c .before .before .list-rooms .ensures (c .before .before .before .before .before .before .before .before .before .before .before .before .before .before .before .before .before .before .before .before .before .before .before .before .before .before .before .before .args .text .now) (rw (c .before .before .before .before .before .before .before .before .before .before .before .reading2 .given .1) at (c .before .before .before .before .before .before .before .before .before .before .before .before .before .before .before .before .before .before .before .solve-text .ensures))
+returns-2 c =
+    let args = c .before .before .before .before .before .before .before .before .before .before .before .before .before .before .before .before .before .before .before .before .before .before .before .before .before .before .before .before .args in
+    let solve-text = c .before .before .before .before .before .before .before .before .before .before .before .before .before .before .before .before .before .before .before .solve-text in
+    let reading2 = c .before .before .before .before .before .before .before .before .before .before .before .reading2 in
+    c .before .before .list-rooms .ensures (args .text .now) (rw (reading2 .given .1) at (solve-text .ensures))
 
 pub text-listing-spec : {M : Type 1} → statement M
 text-listing-spec =

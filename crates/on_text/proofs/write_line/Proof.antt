@@ -13,25 +13,54 @@ returns : tie.Need-returns
 returns c = λ R ready. (unlisted R _ _ _ _ (ready .made) _ _ (c .before .find .ensures) _ _ (c .if1 .taken), refl)
 
 line-requires : tie.Need-line-requires
-line-requires c κs = (ready-settled _ _ _ _ _ _ _ (c .before .before .before .before .before .before .before .before .before .before .pre .1), omega (arith, c .before .if1 .left, counted _ _ _ _ _ (c .before .before .before .before .before .before .before .before .before .before .pre .1 .made)))
+line-requires c κs =
+    let pre = c .before .before .before .before .before .before .before .before .before .before .pre in
+    (ready-settled _ _ _ _ _ _ _ (pre .1), omega (arith, c .before .if1 .left, counted _ _ _ _ _ (pre .1 .made)))
 
 same-length : tie.Need-same-length
 same-length c = search needs
 
 returns-2 : tie.Need-returns-2
-returns-2 c = λ R ready. line-short R _ _ _ _ (ready .made) _ _ (c .before .before .before .before .before .before .find .ensures) (c .before .before .before .before .before .if1 .left) _ _ _ (c .before .before .before .line .ensures) (c .before .before .before .line .kept .1 .1 .1 .1 .1 .1 .0) (c .if2 .taken)
+returns-2 c =
+    let find = c .before .before .before .before .before .before .find in
+    let if1 = c .before .before .before .before .before .if1 in
+    let line = c .before .before .before .line in
+    λ R ready. line-short R _ _ _ _ (ready .made) _ _ (find .ensures) (if1 .left) _ _ _ (line .ensures)
+    (line .kept .1 .1 .1 .1 .1 .1 .0) (c .if2 .taken)
 
 renumber-requires : tie.Need-renumber-requires
-renumber-requires c κs = (c .before .if2 .left, places-listed _ _ _ _ _ (c .before .before .before .before .before .before .before .before .before .before .before .before .before .before .before .pre .1 .made) _ _ (c .before .before .before .before .before .before .before .find .ensures) (c .before .before .before .before .before .before .if1 .left) _ _ _ (c .before .before .before .before .line .ensures) (c .before .before .before .before .line .kept .1 .1 .1 .1 .1 .1 .0) (c .before .if2 .left))
+renumber-requires c κs =
+    let pre = c .before .before .before .before .before .before .before .before .before .before .before .before .before .before .before .pre in
+    let find = c .before .before .before .before .before .before .before .find in
+    let if1 = c .before .before .before .before .before .before .if1 in
+    let line = c .before .before .before .before .line in (
+      c .before .if2 .left,
+      places-listed _ _ _ _ _ (pre .1 .made) _ _ (find .ensures) (if1 .left) _ _ _ (line .ensures)
+          (line .kept .1 .1 .1 .1 .1 .1 .0) (c .before .if2 .left),
+    )
 
 cast-t21 : tie.Need-cast-t21
-cast-t21 c = omega (arith, line-few _ _ _ _ _ (c .before .before .before .before .before .before .before .before .before .before .before .before .before .before .before .before .before .before .pre .1 .made) _ _ (c .before .before .before .before .before .before .before .before .before .before .find .ensures) (c .before .before .before .before .before .before .before .before .before .if1 .left) _ _ _ (c .before .before .before .before .before .before .before .line .ensures) (c .before .before .before .before .before .before .before .line .kept .1 .1 .1 .1 .1 .1 .0))
+cast-t21 c =
+    let pre = c .before .before .before .before .before .before .before .before .before .before .before .before .before .before .before .before .before .before .pre in
+    let find = c .before .before .before .before .before .before .before .before .before .before .find in
+    let if1 = c .before .before .before .before .before .before .before .before .before .if1 in
+    let line = c .before .before .before .before .before .before .before .line in
+    omega (
+      arith,
+      line-few _ _ _ _ _ (pre .1 .made) _ _ (find .ensures) (if1 .left) _ _ _ (line .ensures)
+          (line .kept .1 .1 .1 .1 .1 .1 .0),
+    )
 
 same-length-2 : tie.Need-same-length-2
 same-length-2 c = search needs
 
 returns-3 : tie.Need-returns-3
-returns-3 c = λ R ready. line-given R _ _ _ _ (ready .made) _ _ (c .before .before .before .before .before .before .before .before .before .before .find .ensures) (c .before .before .before .before .before .before .before .before .before .if1 .left) _ _ _ (c .before .before .before .before .before .before .before .line .ensures) (c .before .before .before .before .before .before .before .line .kept .1 .1 .1 .1 .1 .1 .0) (c .before .before .before .before .if2 .left) _ (c .before .before .renumber .ensures)
+returns-3 c =
+    let find = c .before .before .before .before .before .before .before .before .before .before .find in
+    let if1 = c .before .before .before .before .before .before .before .before .before .if1 in
+    let line = c .before .before .before .before .before .before .before .line in
+    λ R ready. line-given R _ _ _ _ (ready .made) _ _ (find .ensures) (if1 .left) _ _ _ (line .ensures)
+    (line .kept .1 .1 .1 .1 .1 .1 .0) (c .before .before .before .before .if2 .left) _ (c .before .before .renumber .ensures)
 
 pub write-line-spec : {M : Type 1} → statement M
 write-line-spec =

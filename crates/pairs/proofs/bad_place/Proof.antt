@@ -40,7 +40,9 @@ place-requires-2 : tie.Need-place-requires-2 Inv-loop μ-loop
 place-requires-2 c κs = search needs
 
 returns-2 : tie.Need-returns-2 Inv-loop μ-loop
-returns-2 c = found-here _ _ _ (omega arith) (c .before .before .before .before .before .before .before .loop .inv .1) (omega arith, inr (omega arith))
+returns-2 c =
+    let loop = c .before .before .before .before .before .before .before .loop in
+    found-here _ _ _ (omega arith) (loop .inv .1) (omega arith, inr (omega arith))
 
 add-k : tie.Need-add-k Inv-loop μ-loop
 add-k c = search needs
@@ -49,7 +51,9 @@ loop-less : tie.Need-loop-less Inv-loop μ-loop
 loop-less c = search needs
 
 loop-again : tie.Need-loop-again Inv-loop μ-loop
-loop-again c = (search needs, further _ _ (c .before .before .before .before .before .before .before .loop .inv .1) (λ b. ⊎-elim (λ l. omega arith) (λ l. omega arith) (b .1)))
+loop-again c =
+    let loop = c .before .before .before .before .before .before .before .loop in
+    (search needs, further _ _ (loop .inv .1) (λ b. ⊎-elim (λ l. omega arith) (λ l. omega arith) (b .1)))
 
 returns-3 : tie.Need-returns-3 Inv-loop μ-loop
 returns-3 c = found-none _ _ _ (c .before .loop .inv .1) (omega arith)

@@ -32,7 +32,15 @@ cast-t15 : tie.Need-cast-t15
 cast-t15 c = search needs
 
 returns-5 : tie.Need-returns-5
-returns-5 c = (omega arith, omega arith, omega arith, found-clear (BadMark (c .before .before .before .before .before .before .before .before .before .before .args .marks .now)) _ _ (λ j p. p .0) (c .before .before .before .bad-mark .ensures) (c .before .before .if4 .left), found-first _ _ _ (c .before .bad-place .ensures) (c .if5 .taken))
+returns-5 c =
+    let args = c .before .before .before .before .before .before .before .before .before .before .args in (
+      omega arith,
+      omega arith,
+      omega arith,
+      found-clear (BadMark (args .marks .now)) _ _ (λ j p. p .0)
+          (c .before .before .before .bad-mark .ensures) (c .before .before .if4 .left),
+      found-first _ _ _ (c .before .bad-place .ensures) (c .if5 .taken),
+    )
 
 repeated-requires : tie.Need-repeated-requires
 repeated-requires c κs = search needs
@@ -41,10 +49,31 @@ cast-t17 : tie.Need-cast-t17
 cast-t17 c = search needs
 
 returns-6 : tie.Need-returns-6
-returns-6 c = (omega arith, omega arith, omega arith, found-clear (BadMark (c .before .before .before .before .before .before .before .before .before .before .before .before .args .marks .now)) _ _ (λ j p. p .0) (c .before .before .before .before .before .bad-mark .ensures) (c .before .before .before .before .if4 .left), found-clear (BadPlace (c .before .before .before .before .before .before .before .before .before .before .before .before .args .marks .now) (c .before .before .before .before .before .before .before .before .before .before .before .before .args .objectors .now) (c .before .before .before .before .before .before .before .before .before .before .before .before .args .targets .now)) _ _ (λ j p. p .0) (c .before .before .before .bad-place .ensures) (c .before .before .if5 .left), found-first _ _ _ (c .before .repeated .ensures) (c .if6 .taken))
+returns-6 c =
+    let args = c .before .before .before .before .before .before .before .before .before .before .before .before .args in
+    let bad-mark = c .before .before .before .before .before .bad-mark in
+    let marks = args .marks .now in (
+      omega arith,
+      omega arith,
+      omega arith,
+      found-clear (BadMark marks) _ _ (λ j p. p .0) (bad-mark .ensures)
+          (c .before .before .before .before .if4 .left),
+      found-clear (BadPlace marks (args .objectors .now) (args .targets .now))
+          _ _ (λ j p. p .0) (c .before .before .before .bad-place .ensures) (c .before .before .if5 .left),
+      found-first _ _ _ (c .before .repeated .ensures) (c .if6 .taken),
+    )
 
 returns-7 : tie.Need-returns-7
-returns-7 c = accepted _ _ _ (omega arith) (omega arith) (omega arith) (found-clear (BadMark (c .before .before .before .before .before .before .before .before .before .before .before .before .args .marks .now)) _ _ (λ j p. p .0) (c .before .before .before .before .before .bad-mark .ensures) (c .before .before .before .before .if4 .left)) (found-clear (BadPlace (c .before .before .before .before .before .before .before .before .before .before .before .before .args .marks .now) (c .before .before .before .before .before .before .before .before .before .before .before .before .args .objectors .now) (c .before .before .before .before .before .before .before .before .before .before .before .before .args .targets .now)) _ _ (λ j p. p .0) (c .before .before .before .bad-place .ensures) (c .before .before .if5 .left)) (found-clear (Repeat (c .before .before .before .before .before .before .before .before .before .before .before .before .args .objectors .now) (c .before .before .before .before .before .before .before .before .before .before .before .before .args .targets .now)) _ _ (λ j p. p .0) (c .before .repeated .ensures) (c .if6 .left))
+returns-7 c =
+    let args = c .before .before .before .before .before .before .before .before .before .before .before .before .args in
+    let bad-mark = c .before .before .before .before .before .bad-mark in
+    let marks = args .marks .now in
+    let objectors = args .objectors .now in
+    let targets = args .targets .now in
+    accepted _ _ _ (omega arith) (omega arith) (omega arith) (found-clear (BadMark marks) _ _ (λ j p. p .0) (bad-mark .ensures)
+    (c .before .before .before .before .if4 .left)) (found-clear (BadPlace marks objectors targets) _ _ (λ j p. p .0)
+    (c .before .before .before .bad-place .ensures) (c .before .before .if5 .left))
+    (found-clear (Repeat objectors targets) _ _ (λ j p. p .0) (c .before .repeated .ensures) (c .if6 .left))
 
 pub check-spec : {M : Type 1} → statement M
 check-spec =

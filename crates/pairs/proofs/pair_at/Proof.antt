@@ -46,10 +46,15 @@ loop-less-2 : tie.Need-loop-less-2 Inv-loop μ-loop
 loop-less-2 c = search needs
 
 loop-again-2 : tie.Need-loop-again-2 Inv-loop μ-loop
-loop-again-2 c = (search needs, further _ _ (c .before .before .before .before .before .loop .inv .1) (λ s. c .if2 .taken (s .1)))
+loop-again-2 c =
+    let loop = c .before .before .before .before .before .loop in
+    (search needs, further _ _ (loop .inv .1) (λ s. c .if2 .taken (s .1)))
 
 returns : tie.Need-returns Inv-loop μ-loop
-returns c = found-here _ _ _ (c .before .before .before .before .loop-test .taken) (c .before .before .before .before .before .loop .inv .1) (c .before .before .if1 .left, c .if2 .left)
+returns c =
+    let loop = c .before .before .before .before .before .loop in
+    found-here _ _ _ (c .before .before .before .before .loop-test .taken) (loop .inv .1)
+    (c .before .before .if1 .left, c .if2 .left)
 
 returns-2 : tie.Need-returns-2 Inv-loop μ-loop
 returns-2 c = found-none _ _ _ (c .before .loop .inv .1) (omega arith)

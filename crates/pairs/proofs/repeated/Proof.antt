@@ -35,7 +35,13 @@ pair-at-requires : tie.Need-pair-at-requires Inv-loop μ-loop
 pair-at-requires c κs = search needs
 
 returns : tie.Need-returns Inv-loop μ-loop
-returns c = found-here _ _ _ (c .before .before .before .before .loop-test .taken) (c .before .before .before .before .before .loop .inv .1) (c .before .before .before .before .loop-test .taken, (c .before .pair-at .result, c .if1 .taken, c .before .pair-at .ensures .2 (c .if1 .taken)))
+returns c =
+    let loop = c .before .before .before .before .before .loop in
+    let loop-test = c .before .before .before .before .loop-test in
+    found-here _ _ _ (loop-test .taken) (loop .inv .1) (
+      loop-test .taken,
+      (c .before .pair-at .result, c .if1 .taken, c .before .pair-at .ensures .2 (c .if1 .taken)),
+    )
 
 add-k : tie.Need-add-k Inv-loop μ-loop
 add-k c = search needs
@@ -44,7 +50,9 @@ loop-less : tie.Need-loop-less Inv-loop μ-loop
 loop-less c = search needs
 
 loop-again : tie.Need-loop-again Inv-loop μ-loop
-loop-again c = (search needs, further _ _ (c .before .before .before .before .before .loop .inv .1) (λ b. c .before .pair-at .ensures .1 (b .1 .0) (omega (arith, b .1 .1)) (b .1 .2)))
+loop-again c =
+    let loop = c .before .before .before .before .before .loop in
+    (search needs, further _ _ (loop .inv .1) (λ b. c .before .pair-at .ensures .1 (b .1 .0) (omega (arith, b .1 .1)) (b .1 .2)))
 
 returns-2 : tie.Need-returns-2 Inv-loop μ-loop
 returns-2 c = found-none _ _ _ (c .before .loop .inv .1) (omega arith)

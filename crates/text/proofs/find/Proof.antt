@@ -35,7 +35,12 @@ loop-less : tie.Need-loop-less Inv-loop μ-loop
 loop-less c = search needs
 
 loop-again : tie.Need-loop-again Inv-loop μ-loop
-loop-again c = (search needs, further (λ (i : ℕ). getD (c .before .before .before .before .args .numbers .now) i 0 ≡ c .before .before .before .before .args .number) _ (c .before .before .before .loop .inv .1) (c .if1 .left))
+loop-again c =
+    let args = c .before .before .before .before .args in (
+      search needs,
+      further (λ (i : ℕ). getD (args .numbers .now) i 0 ≡ args .number) _ (c .before .before .before .loop .inv .1)
+          (c .if1 .left),
+    )
 
 returns-2 : tie.Need-returns-2 Inv-loop μ-loop
 returns-2 c = found-none _ _ _ (c .before .loop .inv .1) (omega arith)

@@ -15,7 +15,11 @@ slice-aggregate-read-lines : tie.Need-slice-aggregate-read-lines
 slice-aggregate-read-lines c = search needs
 
 read-lines-requires : tie.Need-read-lines-requires
-read-lines-requires c κs = ((omega arith, c .before .before .before .before .before .before .ended .ensures .0 (c .before .before .before .before .before .if2 .taken)), (c .before .before .before .before .before .before .before .before .before .before .before .before .before .pre, indexed-none _))
+read-lines-requires c κs =
+    let pre = c .before .before .before .before .before .before .before .before .before .before .before .before .before .pre in
+    let ended = c .before .before .before .before .before .before .ended in
+    let if2 = c .before .before .before .before .before .if2 in
+    ((omega arith, ended .ensures .0 (if2 .taken)), (pre, indexed-none _))
 
 same-length : tie.Need-same-length
 same-length c = search needs

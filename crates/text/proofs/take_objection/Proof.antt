@@ -37,7 +37,31 @@ same-length-2 : tie.Need-same-length-2
 same-length-2 c = search needs
 
 returns-4 : tie.Need-returns-4
-returns-4 c = inr (inr (omega arith, (c .before .before .before .before .before .before .before .look-up .result, c .before .before .before .before .before .look-up2 .result, record { objector = (c .before .before .before .before .before .before .if2 .left, c .before .before .before .before .before .before .before .look-up .ensures .2 (c .before .before .before .before .before .before .if2 .left)); objector-first = c .before .before .before .before .before .before .before .look-up .ensures .1; target = (c .before .before .before .before .if3 .left, c .before .before .before .before .before .look-up2 .ensures .2 (c .before .before .before .before .if3 .left)); target-first = c .before .before .before .before .before .look-up2 .ensures .1 }, (c .before .pair-at .result, c .if4 .taken, c .before .pair-at .ensures .2 (c .if4 .taken) .0, c .before .pair-at .ensures .2 (c .if4 .taken) .1)), refl))
+returns-4 c =
+    let look-up = c .before .before .before .before .before .before .before .look-up in
+    let if2 = c .before .before .before .before .before .before .if2 in
+    let look-up2 = c .before .before .before .before .before .look-up2 in
+    let if3 = c .before .before .before .before .if3 in
+    inr (inr (
+      omega arith,
+      (
+        look-up .result,
+        look-up2 .result,
+        record {
+          objector = (if2 .left, look-up .ensures .2 (if2 .left));
+          objector-first = look-up .ensures .1;
+          target = (if3 .left, look-up2 .ensures .2 (if3 .left));
+          target-first = look-up2 .ensures .1;
+        },
+        (
+          c .before .pair-at .result,
+          c .if4 .taken,
+          c .before .pair-at .ensures .2 (c .if4 .taken) .0,
+          c .before .pair-at .ensures .2 (c .if4 .taken) .1,
+        ),
+      ),
+      refl,
+    ))
 
 cast-objectors : tie.Need-cast-objectors
 cast-objectors c = search needs
@@ -64,7 +88,24 @@ same-length-4 : tie.Need-same-length-4
 same-length-4 c = search needs
 
 returns-5 : tie.Need-returns-5
-returns-5 c = (omega arith, c .before .before .before .before .before .before .before .look-up .result, c .before .before .before .before .before .look-up2 .result, record { objector = (c .before .before .before .before .before .before .if2 .left, c .before .before .before .before .before .before .before .look-up .ensures .2 (c .before .before .before .before .before .before .if2 .left)); objector-first = c .before .before .before .before .before .before .before .look-up .ensures .1; target = (c .before .before .before .before .if3 .left, c .before .before .before .before .before .look-up2 .ensures .2 (c .before .before .before .before .if3 .left)); target-first = c .before .before .before .before .before .look-up2 .ensures .1 }, (λ j l a b. c .before .pair-at .ensures .1 j (omega arith) (a, b)), refl, refl)
+returns-5 c =
+    let look-up = c .before .before .before .before .before .before .before .look-up in
+    let if2 = c .before .before .before .before .before .before .if2 in
+    let look-up2 = c .before .before .before .before .before .look-up2 in
+    let if3 = c .before .before .before .before .if3 in (
+      omega arith,
+      look-up .result,
+      look-up2 .result,
+      record {
+        objector = (if2 .left, look-up .ensures .2 (if2 .left));
+        objector-first = look-up .ensures .1;
+        target = (if3 .left, look-up2 .ensures .2 (if3 .left));
+        target-first = look-up2 .ensures .1;
+      },
+      (λ j l a b. c .before .pair-at .ensures .1 j (omega arith) (a, b)),
+      refl,
+      refl,
+    )
 
 pub take-objection-spec : {M : Type 1} → statement M
 take-objection-spec =

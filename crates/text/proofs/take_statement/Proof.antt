@@ -10,7 +10,9 @@ returns : tie.Need-returns
 returns c = (inl (c .if1 .taken, refl), c .before .before .before .before .pre .1)
 
 returns-2 : tie.Need-returns-2
-returns-2 c = (inr (inl (omega arith, c .if2 .taken, refl)), c .before .before .before .before .before .pre .1)
+returns-2 c =
+    let pre = c .before .before .before .before .before .pre in
+    (inr (inl (omega arith, c .if2 .taken, refl)), pre .1)
 
 look-up-requires : tie.Need-look-up-requires
 look-up-requires c κs = c .before .before .before .before .before .before .before .pre .1
@@ -22,10 +24,30 @@ same-length-2 : tie.Need-same-length-2
 same-length-2 c = search needs
 
 returns-3 : tie.Need-returns-3
-returns-3 c = (inr (inr (omega arith, omega arith, (c .before .look-up .result, (c .if3 .taken, c .before .look-up .ensures .2 (c .if3 .taken))), refl)), c .before .before .before .before .before .before .before .before .before .pre .1)
+returns-3 c =
+    let pre = c .before .before .before .before .before .before .before .before .before .pre in (
+      inr (inr (
+        omega arith,
+        omega arith,
+        (
+          c .before .look-up .result,
+          (c .if3 .taken, c .before .look-up .ensures .2 (c .if3 .taken)),
+        ),
+        refl,
+      )),
+      pre .1,
+    )
 
 enter-requires : tie.Need-enter-requires
-enter-requires c κs = (c .before .before .before .before .before .before .before .before .before .before .before .pre .1, record { fits = omega arith; room = omega arith; absent = λ i l. c .before .before .before .look-up .ensures .1 i (omega arith) })
+enter-requires c κs =
+    let pre = c .before .before .before .before .before .before .before .before .before .before .before .pre in (
+      pre .1,
+      record {
+        fits = omega arith;
+        room = omega arith;
+        absent = λ i l. c .before .before .before .look-up .ensures .1 i (omega arith);
+      },
+    )
 
 mark-number-requires : tie.Need-mark-number-requires
 mark-number-requires c κs = search needs
@@ -43,7 +65,18 @@ same-length-5 : tie.Need-same-length-5
 same-length-5 c = search needs
 
 returns-4 : tie.Need-returns-4
-returns-4 c = ((omega arith, omega arith, (λ i l. c .before .before .before .before .before .before .before .before .before .look-up .ensures .1 i (omega arith)), c .before .before .before .before .before .enter .ensures .0, rw (c .mark-number .ensures) refl), c .before .before .before .before .before .enter .ensures .1)
+returns-4 c =
+    let look-up = c .before .before .before .before .before .before .before .before .before .look-up in
+    let enter = c .before .before .before .before .before .enter in (
+      (
+        omega arith,
+        omega arith,
+        (λ i l. look-up .ensures .1 i (omega arith)),
+        enter .ensures .0,
+        rw (c .mark-number .ensures) refl,
+      ),
+      enter .ensures .1,
+    )
 
 pub take-statement-spec : {M : Type 1} → statement M
 take-statement-spec =

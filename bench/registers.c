@@ -86,9 +86,13 @@ static void draw_stairs(void) {
                 add(objector, target);
 }
 
+/* No objections, so that none is searched for a repeat: what all the rest takes. */
+static void draw_alone(void) {
+}
+
 const struct shape shapes_of_all[SHAPES_OF_ALL] = {
     {"random", draw_random}, {"chain", draw_chain},       {"dense", draw_dense},
-    {"star", draw_star},     {"all unread", draw_unread},
+    {"star", draw_star},     {"all unread", draw_unread}, {"alone", draw_alone},
 };
 
 const struct shape shapes_of_one[SHAPES_OF_ONE] = {

@@ -9,7 +9,7 @@ enum { SIZES = 4 };
 
 /* The shapes for calls that answer for all statements, and for those that are asked for one, which
  * is the first. */
-enum { SHAPES_OF_ALL = 5, SHAPES_OF_ONE = 4 };
+enum { SHAPES_OF_ALL = 6, SHAPES_OF_ONE = 4 };
 
 struct shape {
     const char *name;

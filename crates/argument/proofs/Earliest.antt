@@ -7,8 +7,8 @@ use native.Mathlib.Omega.{arith}
 use lib.ListN.{length, getD}
 use Rattle.game.specs.Label.{Least}
 use Rattle.chain.specs.Chained.{Chained, Walk}
-use Rattle.chain.proofs.Walks.{walk-begins, walk-entry, walk-more, walk-ends}
 use Rattle.argument.specs.Argument.{Onward}
+use Rattle.chain.proofs.Walks.{walk-begins, walk-entry, walk-more, walk-ends}
 
 module _ (objectors targets labels lengths : List ℕ) (x label turns none : ℕ) where
   -- no place is earlier than `best` whose entry has been seen

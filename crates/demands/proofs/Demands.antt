@@ -15,8 +15,6 @@ use Rattle.game.proofs.Objection.{kind-unique}
 use Rattle.pairs.specs.Refuses.{Lists, Refuses}
 use Rattle.pairs.proofs.Laws as pairs
 use Rattle.text.specs.Register.{Register, numbers, objectorNumbers, targetNumbers, Issued, objectorsOf, targetsOf, book}
-use Rattle.text.specs.Reads.{Accepts}
-use Rattle.text.specs.Reads as reads
 use Rattle.text.proofs.Order.{mapped, marks-counted, numbers-counted}
 use Rattle.text.proofs.Unique as text
 use Rattle.text.proofs.Settled as settled
@@ -34,6 +32,8 @@ use Rattle.on_text.specs.Texts.{TextRefuses, ListingShort, Places, byNumber, Li
 use Rattle.on_text.proofs.Unique.{text-apart, place-once, unique-text-labels, unique-text-lengths, unique-text-listing, unique-text-line, unique-text-exercise}
 use Rattle.batqemulo.specs.Demands.{Settled, Answers, LabelSays, LengthSays, KindSays}
 use Rattle.demands.proofs.Says.{label-says, length-says, kind-says}
+use Rattle.text.specs.Reads.{Accepts}
+use Rattle.text.specs.Reads as reads
 
 -- Demand 1: every text, and every handed list, is accepted or refused, never both, with one refusal.
 pub text-settled : (s : List ℕ) → Settled (Accepts s) (reads.Refuses s)

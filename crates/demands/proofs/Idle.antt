@@ -16,7 +16,6 @@ use Rattle.game.proofs.Search.{clash, all-at}
 use Rattle.game.proofs.Verdict.{verdict, verdictBy, verdict-means}
 use Rattle.pairs.specs.Refuses.{Lists}
 use Rattle.text.specs.Register.{Register, book, placeOf}
-use Rattle.text.specs.Reads.{Accepts}
 use Rattle.text.proofs.Order.{marks-counted}
 use Rattle.listing.proofs.Rows.{upTo, length-upTo, getD-upTo}
 use Rattle.table.specs.Table.{ascii}
@@ -29,6 +28,7 @@ use Rattle.on_lists.specs.Lists.{Statements, PairsLabels, PairsLengths}
 use Rattle.on_lists.proofs.Unique.{unique-pairs-labels, unique-pairs-lengths}
 use Rattle.on_text.specs.Texts.{TextStatements, TextLabels, TextLengths}
 use Rattle.on_text.proofs.Unique.{unique-text-labels, unique-text-lengths}
+use Rattle.text.specs.Reads.{Accepts}
 
 -- a room of as many entries as there are statements, with a number of each one's verdict
 told : (n : ℕ) (entry : ℕ → ℕ → Type 0) (number : ℕ → ℕ) (room : List ℕ) → length room ≡ n

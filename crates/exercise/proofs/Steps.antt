@@ -8,10 +8,10 @@ use lib.ListN.{length, getD, set}
 use Rattle.game.specs.Book.{Book, bookOf}
 use Rattle.game.specs.Rules.{fallsWithin, standsWithin}
 use Rattle.chain.specs.Chained.{Walk}
-use Rattle.chain.proofs.Walks.{walk-begins, walk-entry, walk-lower, walk-more, walk-ends}
 use Rattle.exercise.specs.Known.{Chains, Known}
 use Rattle.exercise.proofs.Entries.{Weak, Beaten, falls-none, falls-some, falls-not, stands-late, stands-not, stands-all, stands-unread}
 use Rattle.exercise.proofs.Table.{code, inside, believe, falls-put, stands-put}
+use Rattle.chain.proofs.Walks.{walk-begins, walk-entry, walk-lower, walk-more, walk-ends}
 
 -- what was answered of y was answered of the objector that y is
 said : (q : ℕ → Bool) (y z : ℕ) (r b : Bool) → y ≡ z → r ≡ q y → r ≡ b → q z ≡ b

@@ -9,19 +9,19 @@ use Rattle.game.specs.Find.{Found}
 use Rattle.chain.proofs.Links.{stored, all-zero}
 use Rattle.index.specs.Indexed.{slot, Leads, Indexed, New, Free}
 
-pub slot-low : (rest node : ℕ) → (4 * node ≤ slot rest node) × (slot rest node < 4 * node + 4)
+pub slot-low : (rest node : ℕ) → (8 * node ≤ slot rest node) × (slot rest node < 8 * node + 8)
 unfolding slot
 slot-low rest node = (omega arith, omega arith)
 
 -- a room of zeros is the index of no number
-pub indexed-none : (numbers : List ℕ) → Indexed numbers 0 (replicate 4100 0)
+pub indexed-none : (numbers : List ℕ) → Indexed numbers 0 (replicate 8200 0)
 indexed-none numbers = record {
   few = omega arith;
   within = omega arith;
-  links-room = length-replicate {A = ℕ} 4100 0;
+  links-room = length-replicate {A = ℕ} 8200 0;
   once = λ i j h l. absurd (omega arith);
-  low = λ s. omega (arith, all-zero 4100 s);
-  later = λ s h. absurd (omega (arith, all-zero 4100 s));
+  low = λ s. omega (arith, all-zero 8200 s);
+  later = λ s h. absurd (omega (arith, all-zero 8200 s));
   entered = λ x h. absurd (omega arith);
 }
 
@@ -34,11 +34,11 @@ left n (suc q) = suc (n - q)
 abbrev pub Seeks : (numbers : List ℕ) (n : ℕ) (links : List ℕ) (number rest node : ℕ) → Type 0
 Seeks numbers n links number rest node =
     (node ≤ n) × ((x : ℕ) → x < n → getD numbers x 0 ≡ number → (0 < node)
-    × ((k : ℕ) × (rest′ : ℕ) × Leads links k (rest / 4) node rest′ (x + 1)))
+    × ((k : ℕ) × (rest′ : ℕ) × Leads links k (rest / 8) node rest′ (x + 1)))
 
 -- one step down
 down : (links : List ℕ) (k rest node rest′ node′ : ℕ) → (node ≡ node′ → ⊥) → Leads links k rest node rest′ node′
-    → (0 < getD links (slot rest node) 0) × ((j : ℕ) × (r : ℕ) × Leads links j (rest / 4) (getD links (slot rest node) 0) r node′)
+    → (0 < getD links (slot rest node) 0) × ((j : ℕ) × (r : ℕ) × Leads links j (rest / 8) (getD links (slot rest node) 0) r node′)
 unfolding Leads
 down links zero rest node rest′ node′ f (a, b) = absurd (f b)
 down links (suc k) rest node rest′ node′ f (a, b) = (a, (k, rest′, b))
@@ -66,22 +66,22 @@ module _ (numbers : List ℕ) (n : ℕ) (links : List ℕ) (ix : Indexed numbers
       where
         go : (x : ℕ) → x < n → getD numbers x 0 ≡ number → ((k : ℕ) × (rest : ℕ)
             × Leads links k (getD numbers x 0) 0 rest (x + 1)) → (0 < getD links (slot number 0) 0)
-            × ((k : ℕ) × (rest′ : ℕ) × Leads links k (number / 4) (getD links (slot number 0) 0) rest′ (x + 1))
+            × ((k : ℕ) × (rest′ : ℕ) × Leads links k (number / 8) (getD links (slot number 0) 0) rest′ (x + 1))
         go x h q (k, rest, l) =
             down links k number 0 rest (x + 1) (λ z. omega arith) (subst (λ v. Leads links k v 0 rest (x + 1)) q l)
 
     pub seek-more : (rest node next : ℕ) → Seeks numbers n links number rest node → (node ≡ 0 → ⊥)
-        → (getD numbers (node - 1) 0 ≡ number → ⊥) → next ≡ getD links (slot (rest / 4) node) 0
-        → Seeks numbers n links number (rest / 4) next
-    seek-more rest node next w z f e = (link-low (rest / 4) node next e, λ x h q. rw e (go x q (w .1 x h q .1)))
+        → (getD numbers (node - 1) 0 ≡ number → ⊥) → next ≡ getD links (slot (rest / 8) node) 0
+        → Seeks numbers n links number (rest / 8) next
+    seek-more rest node next w z f e = (link-low (rest / 8) node next e, λ x h q. rw e (go x q (w .1 x h q .1)))
       where
         other : (x : ℕ) → getD numbers x 0 ≡ number → node ≡ x + 1 → ⊥
         other x q p = let d : node - 1 ≡ x = omega arith in f (ap (λ i. getD numbers i 0) d ∙ q)
 
-        go : (x : ℕ) → getD numbers x 0 ≡ number → ((k : ℕ) × (rest′ : ℕ) × Leads links k (rest / 4) node rest′ (x + 1))
-            → (0 < getD links (slot (rest / 4) node) 0) × ((k : ℕ) × (rest′ : ℕ)
-            × Leads links k (rest / 4 / 4) (getD links (slot (rest / 4) node) 0) rest′ (x + 1))
-        go x q (k, rest′, l) = down links k (rest / 4) node rest′ (x + 1) (other x q) l
+        go : (x : ℕ) → getD numbers x 0 ≡ number → ((k : ℕ) × (rest′ : ℕ) × Leads links k (rest / 8) node rest′ (x + 1))
+            → (0 < getD links (slot (rest / 8) node) 0) × ((k : ℕ) × (rest′ : ℕ)
+            × Leads links k (rest / 8 / 8) (getD links (slot (rest / 8) node) 0) rest′ (x + 1))
+        go x q (k, rest′, l) = down links k (rest / 8) node rest′ (x + 1) (other x q) l
 
     -- a number found stands there alone
     pub seek-found : (x : ℕ) → x < n → getD numbers x 0 ≡ number → Found (λ i. getD numbers i 0 ≡ number) n x
@@ -94,11 +94,11 @@ module _ (numbers : List ℕ) (n : ℕ) (links : List ℕ) (ix : Indexed numbers
 
 -- one step more
 onward : (links : List ℕ) (k rest node rest′ node′ : ℕ) → Leads links k rest node rest′ node′
-    → 0 < getD links (slot rest′ node′) 0 → Leads links (suc k) rest node (rest′ / 4) (getD links (slot rest′ node′) 0)
+    → 0 < getD links (slot rest′ node′) 0 → Leads links (suc k) rest node (rest′ / 8) (getD links (slot rest′ node′) 0)
 unfolding Leads
 onward links zero rest node rest′ node′ (a, b) h = rw (a, b) (h, (refl, refl))
 onward links (suc k) rest node rest′ node′ (a, b) h =
-    (a, onward links k (rest / 4) (getD links (slot rest node) 0) rest′ node′ b h)
+    (a, onward links k (rest / 8) (getD links (slot rest node) 0) rest′ node′ b h)
 
 -- The walk to a free slot.
 abbrev pub Walks : (n : ℕ) (links : List ℕ) (number rest node next : ℕ) → Type 0
@@ -111,8 +111,8 @@ unfolding Leads
 walk-begins n links number next e = (omega arith, e, (0, (refl, refl)))
 
 pub walk-more : (numbers : List ℕ) (n : ℕ) (links : List ℕ) (ix : Indexed numbers n links) (number rest node next after : ℕ)
-    → Walks n links number rest node next → (next ≡ 0 → ⊥) → after ≡ getD links (slot (rest / 4) next) 0
-    → Walks n links number (rest / 4) next after
+    → Walks n links number rest node next → (next ≡ 0 → ⊥) → after ≡ getD links (slot (rest / 8) next) 0
+    → Walks n links number (rest / 8) next after
 walk-more numbers n links ix number rest node next after (h, e, (k, l)) z q =
     (link-low numbers n links ix rest node next e, q, (suc k, rw e (onward links k number 0 rest node l (omega arith))))
 
@@ -136,12 +136,12 @@ kept : (links : List ℕ) (s v : ℕ) → s < length links → getD links s 0 �
 unfolding Leads
 kept links s v h z zero rest node rest′ node′ l = l
 kept links s v h z (suc k) rest node rest′ node′ (a, b) =
-    go (stored links s v h (slot rest node)) (kept links s v h z k (rest / 4) (getD links (slot rest node) 0) rest′ node′ b)
+    go (stored links s v h (slot rest node)) (kept links s v h z k (rest / 8) (getD links (slot rest node) 0) rest′ node′ b)
   where
     go : ((slot rest node ≡ s) × (getD (set links s v) (slot rest node) 0 ≡ v))
         ⊎ ((slot rest node ≡ s → ⊥) × (getD (set links s v) (slot rest node) 0 ≡ getD links (slot rest node) 0))
-        → Leads (set links s v) k (rest / 4) (getD links (slot rest node) 0) rest′ node′
-        → (0 < getD (set links s v) (slot rest node) 0) × Leads (set links s v) k (rest / 4)
+        → Leads (set links s v) k (rest / 8) (getD links (slot rest node) 0) rest′ node′
+        → (0 < getD (set links s v) (slot rest node) 0) × Leads (set links s v) k (rest / 8)
         (getD (set links s v) (slot rest node) 0) rest′ node′
     go (inl (e, q)) w = let same : getD links (slot rest node) 0 ≡ 0 = ap (λ i. getD links i 0) e ∙ z in absurd (omega arith)
     go (inr (e, q)) w = rw q (a, w)
@@ -164,12 +164,12 @@ module _ (numbers : List ℕ) (n : ℕ) (links : List ℕ) (number s : ℕ) (ix 
 
   -- the link put in leads from an earlier node to a later one, as the others do
   links-more : (t : ℕ) → (getD (set links s (n + 1)) t 0 ≤ n + 1)
-      × (0 < getD (set links s (n + 1)) t 0 → t < 4 * getD (set links s (n + 1)) t 0)
+      × (0 < getD (set links s (n + 1)) t 0 → t < 8 * getD (set links s (n + 1)) t 0)
   links-more t = go (stored links s (n + 1) slot-within t)
     where
       go : ((t ≡ s) × (getD (set links s (n + 1)) t 0 ≡ n + 1))
           ⊎ ((t ≡ s → ⊥) × (getD (set links s (n + 1)) t 0 ≡ getD links t 0)) → (getD (set links s (n + 1)) t 0 ≤ n + 1)
-          × (0 < getD (set links s (n + 1)) t 0 → t < 4 * getD (set links s (n + 1)) t 0)
+          × (0 < getD (set links s (n + 1)) t 0 → t < 8 * getD (set links s (n + 1)) t 0)
       go (inl (a, b)) = (omega arith, λ _. omega (arith, free .is-slot, slot-low (free .rest) (free .node), free .node-low))
       go (inr (a, b)) = (omega (arith, ix .low t), λ h. omega (arith, ix .later t (omega arith)))
 
@@ -187,9 +187,9 @@ module _ (numbers : List ℕ) (n : ℕ) (links : List ℕ) (number s : ℕ) (ix 
           (kept links s (n + 1) slot-within (free .is-free) (free .steps) number 0 (free .rest) (free .node) (free .leads))
           (omega arith) in (
             suc (free .steps),
-            free .rest / 4,
+            free .rest / 8,
             subst (λ v. Leads (set links s (n + 1)) (suc (free .steps)) number 0
-                (free .rest / 4) v) here way,
+                (free .rest / 8) v) here way,
           )
       go (inr (a, b)) = absurd (a refl)
 

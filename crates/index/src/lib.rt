@@ -1,5 +1,5 @@
 // The place of a number, found without a scan: the places of the numbers entered stand in a tree, and who looks a number up
-// goes down by its digits in base 4. A number of 8 decimal digits has at most 14 of them, and so many steps are the most;
+// goes down by its digits in base 8. A number of 8 decimal digits has at most 9 of them, and so many steps are the most;
 // no contract says so. What the numbers stand for is left to the caller.
 use chain::wide;
 ghost use mathlib.Core.Path.{_≡_};
@@ -13,12 +13,12 @@ fn slot_of(rest: u32, node: usize) -> usize
     requires { ⌜ node ≤ 1024 ⌝ }
     ensures { λ r. ⌜ r ≡ slot rest node ⌝ }
 {
-    4 * node + (rest % 4) as usize
+    8 * node + (rest % 8) as usize
 }
 
 // The node to which the last digit of what is left leads, or 0.
 fn below(links: &[u16], rest: u32, node: usize) -> usize
-    requires { ⌜ (length (now links) ≡ 4100) × (node ≤ 1024) ⌝ }
+    requires { ⌜ (length (now links) ≡ 8200) × (node ≤ 1024) ⌝ }
     ensures { λ r. ⌜ r ≡ getD (now (links .entry)) (slot rest node) 0 ⌝ }
 {
     let s = slot_of(rest, node);
@@ -36,7 +36,7 @@ pub fn look_up(numbers: &[u32], n: usize, links: &[u16], number: u32) -> usize
         if numbers[node - 1] == number {
             return node - 1;
         }
-        rest = rest / 4;
+        rest = rest / 8;
         node = below(links, rest, node);
     }
     n
@@ -52,7 +52,7 @@ fn free_slot(numbers: &[u32], n: usize, links: &[u16], number: u32) -> usize
     let mut next = below(links, rest, node);
     while next != 0 {
         node = next;
-        rest = rest / 4;
+        rest = rest / 8;
         next = below(links, rest, node);
     }
     slot_of(rest, node)

@@ -6,10 +6,10 @@ use Prim.Native.Nat.{ℕ, zero, suc, _+_, _<_}
 use native.Mathlib.Nat.{le-of-suc-le-suc, not-suc-le-zero}
 use native.Mathlib.Omega.{arith}
 use native.Mathlib.Decide.{ℕ-discrete}
-use borrow.Author.Tests.{eq-eqb, ne-eqb}
 use lib.Dec.{eqb}
 use lib.ListN.{length, getD, set}
 use Rattle.label.specs.Queue.{cnt, one}
+use borrow.Author.Tests.{eq-eqb, ne-eqb}
 
 one-more : (b : Bool) (m n : ℕ) → m + 1 ≡ n → one b m + 1 ≡ one b n
 one-more true m n h = omega arith

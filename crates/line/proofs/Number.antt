@@ -9,8 +9,8 @@ use native.Mathlib.Decide.{decLt}
 use native.Mathlib.Omega.{arith}
 use lib.Dec.{ltb}
 use lib.ListN.{length, length-append}
-use borrow.Author.Tests.{lt-ltb, le-ltb}
 use Rattle.line.specs.Number.{pick, decimalIn, decimal}
+use borrow.Author.Tests.{lt-ltb, le-ltb}
 
 -- more room for digits than are needed changes nothing
 more : (f n : ℕ) → n < 10 ^ suc f → decimalIn (suc f) n ≡ decimalIn (suc (suc f)) n

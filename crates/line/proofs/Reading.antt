@@ -9,11 +9,11 @@ use native.Mathlib.Numerals.{add-one}
 use native.Mathlib.Omega.{arith}
 use lib.ListN.{length, getD, drop, length-append}
 use lib.Seq.{drop-cons}
-use borrow.Author.Tests.{lt-leb, le-leb}
 use Rattle.line.specs.Number.{decimal, IsNumber, numberBytes, NumberAt}
 use Rattle.line.specs.Bytes.{byteAt, digitOf}
 use Rattle.line.specs.declared.NumberRead.the-variants.{Value, NoNumber}
 use Rattle.line.proofs.Number.{Digits, digits-append, Leads, decimal-one, decimal-more, decimal-digits, decimal-leads, decimal-injective, decimal-eight}
+use borrow.Author.Tests.{lt-leb, le-leb}
 
 -- inside a list the default does not matter
 pub inside : (s : List ℕ) (i a b : ℕ) → i < length s → getD s i a ≡ getD s i b

@@ -8,13 +8,13 @@ use lib.ListN.{length, take, drop, length-append}
 use lib.Seq.{take-append-seam}
 use Rattle.refusal.specs.Numbers.{numberOf, placeOf}
 use Rattle.refusal.specs.declared.Refusal.{Refusal}
-use Rattle.text.specs.Reads.{Refuses}
 use Rattle.text.proofs.Unique as text
 use Rattle.listing.specs.Listing.{IsListing, refusedRow}
 use Rattle.listing.proofs.Listing.{listing-once, listing-short}
 use Rattle.on_text.specs.Texts.{TextListing}
 use Rattle.answer.specs.declared.Answer.the-variants.{Refused, Given}
 use Rattle.list.specs.Output.{Prints}
+use Rattle.text.specs.Reads.{Refuses}
 
 -- what a room begins with
 begins : (room after l : List ℕ) (n : ℕ) → n ≡ length l → after ≡ l ++ drop (length l) room → (n ≤ length after)

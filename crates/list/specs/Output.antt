@@ -7,8 +7,8 @@ use Prim.Native.Nat.{ℕ}
 use Rattle.refusal.specs.Numbers.{numberOf, placeOf}
 use Rattle.refusal.specs.declared.Refusal.{Refusal}
 use Rattle.text.specs.Register.{Register}
-use Rattle.text.specs.Reads.{Accepts, Refuses}
 use Rattle.listing.specs.Listing.{IsListing, refusedRow}
+use Rattle.text.specs.Reads.{Accepts, Refuses}
 
 abbrev pub Prints : (text printed : List ℕ) → Type 0
 Prints text printed =

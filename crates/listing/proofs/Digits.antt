@@ -1,6 +1,6 @@
 -- How many digits a number has.
 use mathlib.Core.Bool.{Bool, true, false}
-use mathlib.Core.List.{[], _∷_, _++_}
+use mathlib.Core.List.{List, [], _∷_, _++_, append-assoc}
 use mathlib.Core.Path.{_≡_, ap, _∙_}
 use Prim.Native.Nat.{ℕ, zero, suc, _+_, _/_, _%_, _^_, _≤_, _<_}
 use native.Mathlib.Decide.{decLt}
@@ -9,12 +9,33 @@ use lib.Dec.{ltb}
 use lib.ListN.{length, length-append}
 use Rattle.line.specs.Number.{pick, decimalIn, decimal}
 use Rattle.line.proofs.Number.{decimal-one, decimal-tenth}
+use Rattle.listing.specs.Room.{twoDigits}
 
 pub one-digit : (n : ℕ) → n < 10 → length (decimal n) ≡ 1
 one-digit n h = ap length (decimal-one n h)
 
 pub digit-more : (n : ℕ) → 10 ≤ n → n < 10 ^ 10 → length (decimal n) ≡ length (decimal (n / 10)) + 1
 digit-more n h l = ap length (decimal-tenth n h l) ∙ length-append (decimal (n / 10)) ((48 + n % 10) ∷ [])
+
+-- two digits at once
+pub decimal-two : (n : ℕ) → 10 ≤ n → n < 100 → decimal n ≡ twoDigits n
+decimal-two n h l =
+    decimal-tenth n h (omega arith) ∙ ap (λ (ds : List ℕ). ds ++ ((48 + n % 10) ∷ [])) (decimal-one (n / 10) (omega arith))
+
+pub decimal-hundredth : (n : ℕ) → 100 ≤ n → n < 10 ^ 10 → decimal n ≡ decimal (n / 100) ++ twoDigits (n % 100)
+decimal-hundredth n h l =
+    let q : n / 10 / 10 ≡ n / 100 = omega arith in
+    let a : n / 10 % 10 ≡ n % 100 / 10 = omega arith in
+    let b : n % 10 ≡ n % 100 % 10 = omega arith in
+    decimal-tenth n (omega arith) l
+    ∙ ap (λ (ds : List ℕ). ds ++ ((48 + n % 10) ∷ [])) (decimal-tenth (n / 10) (omega arith) (omega arith))
+    ∙ append-assoc (decimal (n / 10 / 10)) ((48 + n / 10 % 10) ∷ []) ((48 + n % 10) ∷ [])
+    ∙ ap (λ k. decimal k ++ ((48 + n / 10 % 10) ∷ (48 + n % 10) ∷ [])) q
+    ∙ ap (λ d. decimal (n / 100) ++ ((48 + d) ∷ (48 + n % 10) ∷ [])) a
+    ∙ ap (λ d. decimal (n / 100) ++ ((48 + n % 100 / 10) ∷ (48 + d) ∷ [])) b
+
+pub digits-more : (n : ℕ) → 100 ≤ n → n < 10 ^ 10 → length (decimal n) ≡ length (decimal (n / 100)) + 2
+digits-more n h l = ap length (decimal-hundredth n h l) ∙ length-append (decimal (n / 100)) (twoDigits (n % 100))
 
 -- never more than 10
 within : (f n : ℕ) → length (decimalIn f n) ≤ f

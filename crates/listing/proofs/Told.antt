@@ -6,7 +6,6 @@ use Prim.Native.Nat.{ℕ, _<_}
 use native.Mathlib.Omega.{arith}
 use lib.ListN.{length, getD, length-map}
 use lib.Seq.{take-all}
-use borrow.Author.Tests.{ne-eqb}
 use Rattle.game.specs.Book.{Book, Listed, Objects, bookOf}
 use Rattle.game.specs.Label.{Verdict, is-open, stands, falls, Means, labelNumber, lengthNumber, Told}
 use Rattle.game.specs.Objection.{kindOf, OfKind}
@@ -23,6 +22,7 @@ use Rattle.text.proofs.Steps.{place-is, objector-entry, target-entry}
 use Rattle.listing.specs.Listing.{header, objectionRow, statementRows, objectionRows, listing, IsListing, Ready}
 use Rattle.listing.specs.Room.{said, verdictAt, orIdle, kindAt, rowsTo, statementAt, objectionAt, statementPart, objectionPart, whole, Lists}
 use Rattle.listing.proofs.Rows.{rows-same, upTo, length-upTo, getD-upTo, statement-rows, objection-rows}
+use borrow.Author.Tests.{ne-eqb}
 
 -- by label number
 pub said-falls : (l n : ℕ) → l ≡ 2 → said l n ≡ falls n

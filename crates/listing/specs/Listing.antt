@@ -14,7 +14,7 @@ use Rattle.label.specs.Labelled.{Labelled}
 use Rattle.line.specs.Number.{decimal, numberBytes}
 use Rattle.line.specs.declared.StatementLine.{StatementLine}
 use Rattle.line.specs.declared.ObjectionLine.{ObjectionLine}
-use Rattle.text.specs.Register.{Register, numbers, objectorsOf, targetsOf, book}
+use Rattle.text.specs.Register.{Register, objectorsOf, targetsOf, book}
 
 -- `REGISTER`
 abbrev pub registerWord : List ℕ

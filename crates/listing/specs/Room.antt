@@ -4,7 +4,7 @@ use mathlib.Core.Bool.{Bool, true, false}
 use mathlib.Core.List.{List, [], _∷_, _++_}
 use mathlib.Core.Option.{Option, some, none}
 use mathlib.Core.Path.{_≡_}
-use Prim.Native.Nat.{ℕ, zero, suc, _+_, _≤_}
+use Prim.Native.Nat.{ℕ, zero, suc, _+_, _/_, _%_, _≤_}
 use lib.Dec.{eqb}
 use lib.ListN.{length, getD, take, drop}
 use Rattle.game.specs.Book.{bookOf}
@@ -28,6 +28,10 @@ Fits room at bytes = at + length bytes ≤ length room
 pub record Put (room : List ℕ) (at : ℕ) (bytes : List ℕ) (end : ℕ) (room′ : List ℕ) : Type 0 where
   pub ends : end ≡ at + length bytes
   pub is : room′ ≡ written room at bytes
+
+-- the two digits of a number below 100, the first of them 0 if it has but one
+abbrev pub twoDigits : ℕ → List ℕ
+twoDigits n = (48 + n / 10) ∷ (48 + n % 10) ∷ []
 
 -- the fields of a verdict and of a kind, with the tab between them
 abbrev pub verdictFields : Verdict → List ℕ

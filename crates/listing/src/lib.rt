@@ -4,12 +4,12 @@ use chain::place;
 use game::Kind;
 ghost use mathlib.Core.List.{List, _++_};
 ghost use mathlib.Core.Path.{_≡_};
-ghost use Prim.Native.Nat.{ℕ, _≤_};
+ghost use Prim.Native.Nat.{ℕ, _≤_, _<_};
 ghost use lib.ListN.{length, drop};
 ghost use Rattle.line.specs.Number.{decimal};
 ghost use Rattle.text.specs.Register.{Register};
 ghost use Rattle.listing.specs.Listing.{numbersRow, header, refusedRow, statementRow, objectionRow, IsListing, Ready};
-ghost use Rattle.listing.specs.Room.{Fits, Put, verdictFields, kindFields, said, statementPart, objectionPart, Lists};
+ghost use Rattle.listing.specs.Room.{Fits, Put, twoDigits, verdictFields, kindFields, said, statementPart, objectionPart, Lists};
 
 // How many digits a number has.
 fn number_size(number: u32) -> usize
@@ -123,6 +123,17 @@ fn put_word(room: &mut [u8], at: usize, word: &[u8]) -> usize
     end
 }
 
+// The two digits of a number below 100.
+fn put_digits(room: &mut [u8], at: usize, number: u32) -> usize
+    requires { ⌜ (number < 100) × Fits (now room) at (twoDigits number) ⌝ }
+    ensures { λ r. ⌜ Put (now (room .entry)) at (twoDigits number) r (now (room .exit)) ⌝ }
+{
+    room[at] = (48 + number / 10) as u8;
+    room[at + 1] = (48 + number % 10) as u8;
+    at + 2
+}
+
+// Two digits at a time, since each division waits for the one before.
 fn put_number(room: &mut [u8], at: usize, number: u32) -> usize
     requires { ⌜ Fits (now room) at (decimal number) ⌝ }
     ensures { λ r. ⌜ Put (now (room .entry)) at (decimal number) r (now (room .exit)) ⌝ }
@@ -131,9 +142,11 @@ fn put_number(room: &mut [u8], at: usize, number: u32) -> usize
         room[at] = (48 + number) as u8;
         return at + 1;
     }
-    let end = put_number(room, at, number / 10);
-    room[end] = (48 + number % 10) as u8;
-    end + 1
+    if number < 100 {
+        return put_digits(room, at, number);
+    }
+    let end = put_number(room, at, number / 100);
+    put_digits(room, end, number % 100)
 }
 
 // A word and a number.

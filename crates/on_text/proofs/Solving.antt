@@ -1,4 +1,5 @@
 -- From the rooms that reading leaves to the solver, and from the solver to what the text calls promise.
+use mathlib.Core.Bool.{true, false}
 use mathlib.Core.List.{List, _++_}
 use mathlib.Core.Logic.{inr}
 use mathlib.Core.Path.{_≡_, refl, sym, _∙_}
@@ -12,16 +13,16 @@ use Rattle.label.specs.Labelled.{Solved}
 use Rattle.text.specs.Register.{Register, Valid, marksOf, objectorsOf, targetsOf}
 use Rattle.refusal.specs.declared.Refusal.{Refusal}
 use Rattle.refusal.specs.declared.Refusal.the-variants.{Room}
-use Rattle.text.specs.Reads.{Accepts}
 use Rattle.text.specs.State.{ReadsTo, Made}
 use Rattle.text.specs.declared.Reading.the-variants.{Whole}
 use Rattle.text.proofs.Order.{marks-counted, objectors-counted, register-in-order}
 use Rattle.listing.specs.Listing.{IsListing, Ready}
-use Rattle.listing.proofs.Listing.{listing-once, listing-short}
+use Rattle.listing.proofs.Listing.{listing-short}
 use Rattle.answer.specs.Answer.{Promised, Begins, Short}
 use Rattle.answer.specs.declared.Answer.{Answer}
 use Rattle.answer.specs.declared.Answer.the-variants.{Refused, Given}
-use Rattle.on_text.specs.Texts.{SolvedText, StatementsGiven, TextRefuses, ListingWritten}
+use Rattle.on_text.specs.Texts.{SolvedText, StatementsGiven, TextRefuses, Bounded, HasRoom, ListingWritten}
+use Rattle.text.specs.Reads.{Accepts}
 
 -- what is promised of its register is promised of the text
 pub text-promised : {Rooms : Type 0} (s : List ℕ) (later : Register → Refusal → Type 0) (gives : Register → ℕ → Rooms → Type 0)
@@ -120,14 +121,14 @@ module _ (s nums marks objectors targets labels lengths : List ℕ) (n m : ℕ)
     labelled = w .3;
   }
 
-  pub rooms-short : (l : List ℕ) → IsListing (w .0) l → length l ≤ 131072
-  rooms-short l i = listing-short s (w .0) l (w .1) i
+  pub rooms-bounded : Bounded (w .0)
+  rooms-bounded l i = listing-short s (w .0) l (w .1) i
 
 -- where the listing is too long for the room, and where it was written
-module _ (R : Register) (room : List ℕ) (size : ℕ) (l : List ℕ) (is : IsListing R l) (counts : size ≡ length l) where
-  pub too-long : length room < size → ListingWritten R room (Refused Room) room
-  too-long h = (((l, is, omega arith), refl), refl)
+pub too-long : (R : Register) (room : List ℕ) → HasRoom R (length room) false → ListingWritten R room (Refused Room) room
+too-long R room short = ((short, refl), refl)
 
-  pub well-written : (after : List ℕ) → size ≤ length room → ((k : List ℕ) × IsListing R k × (after ≡ k ++ drop (length k) room))
-      → ListingWritten R room (Given size) after
-  well-written after h (k, i, e) = (l, is, (counts, omega arith, rw (listing-once R k l i is) at e))
+pub well-written : (R : Register) (room : List ℕ) → HasRoom R (length room) true → (size : ℕ) (after : List ℕ)
+    → ((l : List ℕ) × IsListing R l × (size ≡ length l) × (after ≡ l ++ drop (length l) room))
+    → ListingWritten R room (Given size) after
+well-written R room fits size after (l, is, counts, e) = (l, is, (counts, fits l is, e))

@@ -13,7 +13,6 @@ use Rattle.game.proofs.Line.{line-unique}
 use Rattle.exercise.specs.Exercise.{Answered}
 use Rattle.exercise.proofs.Exercise.{answered-once}
 use Rattle.text.specs.Register.{Register, Valid, numbers, Issued, book}
-use Rattle.text.specs.Reads.{Accepts, Refuses}
 use Rattle.text.proofs.Unique as text
 use Rattle.listing.specs.Listing.{IsListing}
 use Rattle.listing.proofs.Listing.{listing-once}
@@ -25,6 +24,7 @@ use Rattle.answer.specs.declared.Answer.the-variants.{Refused}
 use Rattle.answer.proofs.Rooms.{begins-unique, written-unique}
 use Rattle.answer.proofs.Promises.{through, promised-unique, refused-exactly, Exactly, short-once, asks-once, asks-none, asks-14, asks-15, asks-10}
 use Rattle.on_text.specs.Texts.{TextRefuses, StatementsGiven, TextStatements, TextLabels, TextLengths, ListingIn, ListingShort, TextListing, Places, byNumber, LineIn, LineShort, LineRefused, TextLine, ExerciseIn, TextExercise}
+use Rattle.text.specs.Reads.{Accepts, Refuses}
 
 -- a number stands at one place
 pub place-once : (R : Register) → Valid R → (number x x′ : ℕ) → Places R number x → Places R number x′ → x ≡ x′

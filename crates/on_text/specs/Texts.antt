@@ -1,5 +1,6 @@
 -- The promises of the calls on a register text. Labels and lengths are those of the book of the register that the text is the
 -- written form of.
+use mathlib.Core.Bool.{Bool, true, false}
 use mathlib.Core.List.{List, map}
 use mathlib.Core.Logic.{_⊎_}
 use mathlib.Core.Path.{_≡_}
@@ -10,7 +11,6 @@ use Rattle.game.specs.Label.{Verdict, Means, labelNumber, lengthNumber}
 use Rattle.label.specs.Labelled.{Labelled}
 use Rattle.text.specs.Register.{Register, numbers, Issued, book}
 use Rattle.exercise.specs.Exercise.{Answered}
-use Rattle.text.specs.Reads.{Accepts, Refuses}
 use Rattle.text.specs.State.{Holds}
 use Rattle.text.specs.declared.Reading.{Reading}
 use Rattle.text.specs.declared.Reading.the-variants.{Whole, Refused}
@@ -18,6 +18,7 @@ use Rattle.listing.specs.Listing.{IsListing}
 use Rattle.refusal.specs.declared.Refusal.{Refusal}
 use Rattle.answer.specs.Answer.{Promised, Begins, Written, Short, Asks}
 use Rattle.answer.specs.declared.Answer.{Answer}
+use Rattle.text.specs.Reads.{Accepts, Refuses}
 
 -- the room holds the register's listing, n bytes; the room is shorter than that
 abbrev pub ListingIn : Register → List ℕ → ℕ → List ℕ → Type 0
@@ -25,6 +26,14 @@ ListingIn R room n after = (l : List ℕ) × IsListing R l × Written l room n a
 
 abbrev pub ListingShort : List ℕ → Register → Type 0
 ListingShort room R = (l : List ℕ) × IsListing R l × (length room < length l)
+
+-- Not for callers: no listing of the register is longer than the longest; whether so many bytes are room for it.
+abbrev pub Bounded : Register → Type 0
+Bounded R = (l : List ℕ) → IsListing R l → length l ≤ 131072
+
+abbrev pub HasRoom : Register → (room : ℕ) → Bool → Type 0
+HasRoom R room true = (l : List ℕ) → IsListing R l → length l ≤ room
+HasRoom R room false = (l : List ℕ) × IsListing R l × (room < length l)
 
 -- Not for callers: the listing is written, or there is too little room for it.
 abbrev pub ListingWritten : Register → List ℕ → Answer → List ℕ → Type 0

@@ -12,9 +12,9 @@ ghost use Rattle.label.specs.Labelled.{Solved};
 ghost use Rattle.text.specs.Register.{Register};
 ghost use Rattle.text.specs.State.{Made, Spacious, ReadsTo};
 ghost use Rattle.text.specs.declared.Reading.the-variants.{Whole};
-ghost use Rattle.listing.specs.Listing.{IsListing, Ready};
+ghost use Rattle.listing.specs.Listing.{Ready};
 ghost use Rattle.answer.specs.Answer.{Begins};
-ghost use Rattle.on_text.specs.Texts.{TextLabels, TextLengths, TextListing, TextLine, TextExercise, ListingWritten, LineWritten, ExerciseAnswered, SolvedText};
+ghost use Rattle.on_text.specs.Texts.{TextLabels, TextLengths, TextListing, TextLine, TextExercise, Bounded, HasRoom, ListingWritten, LineWritten, ExerciseAnswered, SolvedText};
 
 // Labels the n statements and m objections that rooms begin with.
 fn solve_rooms(
@@ -144,6 +144,29 @@ pub fn text_lengths(text: &[u8], room: &mut [u16]) -> Answer
     }
 }
 
+// Whether so many bytes are room for the listing. None is longer than 131,072, so that a long room needs no count.
+fn has_room(
+    numbers: &[u32],
+    marks: &[u8],
+    objectors: &[u32],
+    targets: &[u32],
+    labels: &[u8],
+    lengths: &[u16],
+    room: usize,
+) -> bool
+    requires { ⌜ ((R : Register) × Ready R (now numbers) (now marks) (now objectors) (now targets) (now labels) (now lengths)) ⌝ }
+    ensures { λ r. ⌜ ((R : Register) → Ready R (now (numbers .entry)) (now (marks .entry)) (now (objectors .entry))
+        (now (targets .entry)) (now (labels .entry)) (now (lengths .entry)) → Bounded R → HasRoom R room r) ⌝ }
+{
+    if room >= 131072 {
+        return true;
+    }
+    if room >= listing::size(numbers, marks, objectors, targets, labels, lengths) {
+        return true;
+    }
+    false
+}
+
 // Writes the listing of a register that is labelled, if there is room for all of it.
 fn write_listing(
     numbers: &[u32],
@@ -155,17 +178,24 @@ fn write_listing(
     room: &mut [u8],
 ) -> Answer
     requires { ⌜ ((R : Register) × Ready R (now numbers) (now marks) (now objectors) (now targets) (now labels) (now lengths)
-        × ((l : List ℕ) → IsListing R l → length l ≤ 131072)) ⌝ }
+        × Bounded R) ⌝ }
     ensures { λ a. ⌜ ((R : Register) → Ready R (now (numbers .entry)) (now (marks .entry)) (now (objectors .entry))
-        (now (targets .entry)) (now (labels .entry)) (now (lengths .entry))
+        (now (targets .entry)) (now (labels .entry)) (now (lengths .entry)) → Bounded R
         → ListingWritten R (now (room .entry)) a (now (room .exit))) ⌝ }
 {
-    let size = listing::size(numbers, marks, objectors, targets, labels, lengths);
-    if room.len() < size {
-        return Answer::Refused(Refusal::Room);
+    if has_room(
+        numbers,
+        marks,
+        objectors,
+        targets,
+        labels,
+        lengths,
+        room.len(),
+    ) {
+        let size = listing::write(numbers, marks, objectors, targets, labels, lengths, room);
+        return Answer::Given(size as u32);
     }
-    listing::write(numbers, marks, objectors, targets, labels, lengths, room);
-    Answer::Given(size as u32)
+    Answer::Refused(Refusal::Room)
 }
 
 // Writes the listing of the n statements and m objections that rooms begin with.

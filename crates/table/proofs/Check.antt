@@ -23,12 +23,12 @@ use Rattle.game.proofs.Objection.{never-occurs}
 use Rattle.line.specs.Number.{decimal, decimalIn}
 use Rattle.line.specs.declared.Mark.the-variants.{Read, Unread}
 use Rattle.text.specs.Register.{Register, Issued, Valid, numbers, objectorNumbers, targetNumbers, objectorsOf, targetsOf, marksOf, book, written, bytes, placeOf}
-use Rattle.text.specs.Reads.{Accepts}
 use Rattle.text.proofs.Order.{marks-counted, objectors-counted, register-in-order}
 use Rattle.listing.specs.Listing.{numbersRow, statementRow, statementRows, objectionRow, objectionRows, listing, IsListing}
 use Rattle.listing.specs.Room.{orIdle}
 use Rattle.listing.proofs.Rows.{upTo, length-upTo, getD-upTo}
 use Rattle.table.specs.Table.{Row, lists, finishes, Says, Every, ascii, table}
+use Rattle.text.specs.Reads.{Accepts}
 
 -- The guess: fields end at bytes up to 10, and a line has three.
 extend : ℕ → List (List ℕ) → List (List ℕ)

@@ -7,8 +7,8 @@ use Prim.Native.Char.{code}
 use Prim.Native.String.{String, [] as ended, _∷_ as _then_}
 use Rattle.game.specs.Finish.{Finish}
 use Rattle.text.specs.Register.{Register, book}
-use Rattle.text.specs.Reads.{Accepts}
 use Rattle.listing.specs.Listing.{IsListing}
+use Rattle.text.specs.Reads.{Accepts}
 
 -- the bytes of a text as it is typed here: `\t` is byte 9, `\n` byte 10
 unfoldable pub ascii : String → List ℕ

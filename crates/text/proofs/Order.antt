@@ -7,7 +7,6 @@ use native.Mathlib.Decide.{ℕ-discrete}
 use native.Mathlib.Omega.{arith}
 use lib.Dec.{eqb}
 use lib.ListN.{length, getD, length-map}
-use borrow.Author.Tests.{eq-eqb, ne-eqb}
 use Rattle.game.specs.Book.{InOrder}
 use Rattle.line.specs.Lines.{markNumber}
 use Rattle.line.specs.declared.Mark.{Mark}
@@ -15,6 +14,7 @@ use Rattle.line.specs.declared.Mark.the-variants.{Read, Unread}
 use Rattle.line.specs.declared.StatementLine.{StatementLine}
 use Rattle.line.specs.declared.ObjectionLine.{ObjectionLine}
 use Rattle.text.specs.Register.{Register, numbers, objectorNumbers, targetNumbers, Issued, Valid, pick, placeOf, marksOf, objectorsOf, targetsOf}
+use borrow.Author.Tests.{eq-eqb, ne-eqb}
 
 -- a number that is there has its place among the others
 pub place-listed : (ns : List ℕ) (v i : ℕ) → i < length ns → getD ns i 0 ≡ v → placeOf ns v < length ns

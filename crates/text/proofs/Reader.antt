@@ -16,11 +16,11 @@ use Rattle.line.specs.declared.Got.the-variants.{Good}
 use Rattle.refusal.specs.declared.Refusal.{Refusal}
 use Rattle.refusal.specs.declared.Refusal.the-variants.{Spoiled}
 use Rattle.text.specs.Register.{Register, Valid, written, bytes, Issued as OnRegister}
-use Rattle.text.specs.Reads.{NotEnded, Reached, Refuses}
 use Rattle.text.specs.State.{Holds, ReadsTo, StatementTaken, ObjectionTaken}
 use Rattle.text.specs.declared.Reading.the-variants.{Whole}
 use Rattle.text.specs.declared.Taken.the-variants.{Kept, AtFault}
 use Rattle.text.proofs.Steps.{bare, with-statement, with-objection, no-objections, written-statement, written-objection, on-register, off-register, place-is, stands-already, stands-nowhere, valid-statement, holds-statement, valid-objection, holds-objection}
+use Rattle.text.specs.Reads.{NotEnded, Reached, Refuses}
 
 pub record Inv (s : List ℕ) (at n m : ℕ) (nums marks objectors targets : List ℕ) : Type 0 where
   pub register : Register

@@ -18,8 +18,8 @@ use Rattle.line.specs.declared.Line.the-variants.{Statement, Objection}
 use Rattle.refusal.specs.declared.Refusal.{Refusal}
 use Rattle.refusal.specs.declared.Refusal.the-variants.{TooLong, Unended, Spoiled, Late, Issued, Statements, Unknown, Repeated, Objections}
 use Rattle.text.specs.Register.{Register, Valid, numbers, objectorNumbers, targetNumbers, written, bytes, Issued as OnRegister, Has}
-use Rattle.text.specs.Reads.{Accepts, NotEnded, Reached, Refuses}
 use Rattle.text.proofs.Steps.{bare, with-statement, with-objection, no-objections, written-statement, written-objection, valid-statement, valid-objection}
+use Rattle.text.specs.Reads.{Accepts, NotEnded, Reached, Refuses}
 
 -- it holds, or it does not
 abbrev Settles : Type 0 → Type 0

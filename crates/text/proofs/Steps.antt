@@ -10,7 +10,6 @@ use native.Mathlib.Omega.{arith}
 use lib.Dec.{eqb}
 use lib.ListN.{length, getD, take, set, length-append, length-map, List·getD-append}
 use lib.Seq.{getD-append-add, take-suc-set, getD-take}
-use borrow.Author.Tests.{eq-eqb, ne-eqb}
 use Rattle.line.specs.Number.{IsNumber}
 use Rattle.line.specs.Lines.{lineBytes, markNumber}
 use Rattle.line.specs.declared.StatementLine.{StatementLine}
@@ -19,6 +18,7 @@ use Rattle.line.specs.declared.Line.{Line}
 use Rattle.line.specs.declared.Line.the-variants.{Statement, Objection}
 use Rattle.text.specs.Register.{Register, numbers, objectorNumbers, targetNumbers, Issued, Has, Valid, lines, bytes, written, pick, placeOf}
 use Rattle.text.specs.State.{Holds, At, Absent, Ends}
+use borrow.Author.Tests.{eq-eqb, ne-eqb}
 
 -- a register with no objections, one statement more, and one objection more
 abbrev pub bare : List StatementLine → Register

@@ -194,7 +194,7 @@ pub fn read(
         return Reading::Refused(Refusal::TooLong);
     }
     if ended(text) {
-        let mut links = [0u16; 4100];
+        let mut links = [0u16; 8200];
         return read_lines(text, numbers, marks, objectors, targets, &mut links);
     }
     Reading::Refused(Refusal::Unended)

@@ -1,13 +1,11 @@
 -- `write` puts x first, and the line of the next objector into the rest of the room.
-use Rattle.argument.proofs.Room.{room-first, rest-length, room-rest, rest-kept}
-use lib.ListN.{length-set}
 use mathlib.Core.List.{[], _∷_}
-use Rattle.argument.proofs.Room.{room-first, rest-length, room-rest}
+use Prim.Native.Nat.{ℕ, _<_}
 use native.Mathlib.Omega.{arith}
-use Prim.Native.Nat.{_-_}
+use lib.ListN.{length-set}
+use Rattle.argument.proofs.Room.{room-first, rest-length, room-rest, rest-kept}
 use Rattle.argument.proofs.Lines.{line-ends, onward-there, onward-listed, onward-turns, line-goes-on}
 use borrow.Author.Needs.{needs}
-use Prim.Native.Nat.{ℕ, _<_}
 use borrow.Fn.Kinds.{In}
 use borrow.Fn.PlainCycle.{Measures, is, falls, and}
 use Rattle.argument.proofs.write.Reads as write

@@ -1,10 +1,10 @@
 -- `onward` goes along the chain of x. The invariant: what it keeps is the earliest seen.
-use native.Mathlib.Omega.{arith}
 use Prim.Native.Nat.{_-_}
+use native.Mathlib.Omega.{arith}
 use lib.ListN.{length}
-use Rattle.chain.proofs.Walks.{walk-lower}
 use Rattle.argument.proofs.Earliest.{Search, search-begins, search-passes, search-keeps, search-ends}
 use borrow.Author.Needs.{needs}
+use Rattle.chain.proofs.Walks.{walk-lower}
 use Rattle.argument.proofs.onward.Statement.{statement}
 use Rattle.argument.proofs.onward.Tie as tie
 

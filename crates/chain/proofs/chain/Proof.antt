@@ -1,7 +1,7 @@
 -- `chain` links each entry to the one before it that names the same place. The invariant: those passed are linked.
-use native.Mathlib.Omega.{arith}
-use Prim.Native.Nat.{_-_, _≤_}
 use mathlib.Core.Path.{_≡_, refl, sym}
+use Prim.Native.Nat.{_-_, _≤_}
+use native.Mathlib.Omega.{arith}
 use lib.ListN.{length, length-set}
 use Rattle.chain.specs.Chained.{Chained}
 use Rattle.chain.proofs.Links.{chained-none, chained-more}

@@ -1,16 +1,16 @@
 -- `falls_within` and `stands_within` ask each other with one turn less. Each walks the chain of its statement; the
 -- invariant of the walk is what every objector passed was found to be, beside tables that are right.
 use mathlib.Core.Bool.{true, false}
+use Prim.Native.Nat.{ℕ, _<_}
 use native.Mathlib.Omega.{arith}
-use borrow.Author.Tests.{not-true, not-false}
 use Rattle.game.specs.Book.{bookOf}
 use Rattle.chain.specs.Chained.{Walk}
 use Rattle.exercise.specs.Known.{Known}
 use Rattle.exercise.proofs.Entries.{Weak, Beaten}
 use Rattle.exercise.proofs.Steps.{begins, listed, lower, falls-slot, falls-believed, falls-at-once, falls-goes-on, falls-found, falls-ends, stands-slot, stands-believed, stands-never, stands-too-late, stands-goes-on, stands-lost, stands-ends}
 use Rattle.exercise.proofs.Table.{same-room, set-room}
+use borrow.Author.Tests.{not-true, not-false}
 use borrow.Author.Needs.{needs}
-use Prim.Native.Nat.{ℕ, _<_}
 use borrow.Fn.Kinds.{In}
 use borrow.Fn.PlainCycle.{Measures, is, falls, and}
 use Rattle.exercise.proofs.falls_within.Reads as falls-within

@@ -2,8 +2,8 @@
 -- would contradict the game, and a label number above 2 is none.
 use mathlib.Core.Path.{refl}
 use native.Mathlib.Omega.{arith}
-use borrow.Author.Needs.{needs}
 use Rattle.game.proofs.Objection.{kind-at, never-at, ends-low, ends-length}
+use borrow.Author.Needs.{needs}
 use Rattle.game.proofs.kind_of.Statement.{statement}
 use Rattle.game.proofs.kind_of.Tie as tie
 

@@ -1,4 +1,4 @@
--- `slot_of` adds the last digit in base 4.
+-- `slot_of` adds the last digit in base 8.
 use mathlib.Core.Path.{refl}
 use Rattle.index.specs.Indexed.{slot}
 use borrow.Author.Needs.{needs}

@@ -1,12 +1,12 @@
 -- `blank` takes away every label. The invariant: the places passed are blank.
-use borrow.Author.Needs.{needs}
-use native.Mathlib.Omega.{arith}
-use Prim.Native.Nat.{ℕ, _-_, _<_, _≤_}
 use mathlib.Core.Path.{_≡_, _∙_}
+use Prim.Native.Nat.{ℕ, _-_, _<_, _≤_}
+use native.Mathlib.Omega.{arith}
 use lib.ListN.{length, getD, length-set}
-use Rattle.label.proofs.Steps.{below-ne}
-use borrow.Author.Count.{below-more}
 use lib.Seq.{getD-set-same, getD-set-other}
+use Rattle.label.proofs.Steps.{below-ne}
+use borrow.Author.Needs.{needs}
+use borrow.Author.Count.{below-more}
 use Rattle.label.proofs.blank.Statement.{statement}
 use Rattle.label.proofs.blank.Tie as tie
 

@@ -1,12 +1,11 @@
 -- `count` counts the objections against each place. The invariant: those passed are counted.
-use borrow.Author.Needs.{needs}
-use native.Mathlib.Omega.{arith}
-use Prim.Native.Nat.{_-_, _≤_}
 use mathlib.Core.Path.{_≡_, refl, sym}
+use Prim.Native.Nat.{_-_, _≤_}
+use native.Mathlib.Omega.{arith}
 use lib.ListN.{length, length-set}
-use Rattle.label.proofs.Links.{target-place}
+use Rattle.label.proofs.Links.{target-place, counted-none, counted-more}
 use Rattle.label.specs.Queue.{Counted}
-use Rattle.label.proofs.Links.{counted-none, counted-more}
+use borrow.Author.Needs.{needs}
 use Rattle.label.proofs.count.Statement.{statement}
 use Rattle.label.proofs.count.Tie as tie
 

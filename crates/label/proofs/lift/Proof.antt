@@ -1,12 +1,12 @@
 -- `lift` goes along the chain of a falling place. The invariant: what is looked at is the link reached.
-use borrow.Author.Needs.{needs}
-use native.Mathlib.Omega.{arith}
-use Prim.Native.Nat.{_+_, _-_}
 use mathlib.Core.Path.{_≡_, refl, sym}
+use Prim.Native.Nat.{_+_, _-_}
+use native.Mathlib.Omega.{arith}
 use lib.ListN.{length, length-set}
 use Rattle.label.specs.Queue.{Run}
 use Rattle.label.proofs.Runs.{Link, enter, moved, current-place, current-short, left-some, lift-skip, lift-set, queue-room}
 use Rattle.label.proofs.Links.{target-place}
+use borrow.Author.Needs.{needs}
 use Rattle.label.proofs.lift.Statement.{statement}
 use Rattle.label.proofs.lift.Tie as tie
 

@@ -1,12 +1,12 @@
 -- `run` takes the places of the queue in turn. The invariant: the queue is in order; at its end nothing is left to label.
-use borrow.Author.Needs.{needs}
-use native.Mathlib.Omega.{arith}
-use Prim.Native.Nat.{_-_}
 use mathlib.Core.Path.{_≡_, refl, _∙_}
+use Prim.Native.Nat.{_-_}
+use native.Mathlib.Omega.{arith}
 use lib.ListN.{length}
 use Rattle.label.specs.Queue.{Turn}
 use Rattle.label.proofs.Runs.{current-place, current-falls, finish}
 use Rattle.label.proofs.Agreement.{labelled}
+use borrow.Author.Needs.{needs}
 use Rattle.label.proofs.run.Statement.{statement}
 use Rattle.label.proofs.run.Tie as tie
 

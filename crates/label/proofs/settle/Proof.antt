@@ -1,9 +1,9 @@
 -- `settle` prepares the chains, the counters and the queue, each in a room of its own.
-use borrow.Author.Needs.{needs}
-use native.Mathlib.Omega.{arith}
 use mathlib.Core.Path.{_∙_}
+use native.Mathlib.Omega.{arith}
 use lib.ListN.{getD-replicate}
 use Rattle.chain.proofs.Links.{all-zero}
+use borrow.Author.Needs.{needs}
 use Rattle.label.proofs.settle.Statement.{statement}
 use Rattle.label.proofs.settle.Tie as tie
 

@@ -1,12 +1,12 @@
 -- `start` queues what is read and has no objector. The invariant: the places passed are settled.
-use borrow.Author.Needs.{needs}
-use native.Mathlib.Omega.{arith}
-use Prim.Native.Nat.{ℕ, _-_, _<_, _≤_}
 use mathlib.Core.Path.{_≡_, refl, _∙_}
+use Prim.Native.Nat.{ℕ, _-_, _<_, _≤_}
+use native.Mathlib.Omega.{arith}
 use lib.ListN.{length, getD, length-set}
+use lib.Seq.{getD-set-other}
 use Rattle.label.specs.Queue.{Run}
 use Rattle.label.proofs.Runs.{run-blank, settle, start-room, start-set}
-use lib.Seq.{getD-set-other}
+use borrow.Author.Needs.{needs}
 use Rattle.label.proofs.start.Statement.{statement}
 use Rattle.label.proofs.start.Tie as tie
 

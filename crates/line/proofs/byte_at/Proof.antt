@@ -1,6 +1,6 @@
 -- `byte_at` is total: past the end it gives what is no byte.
-use native.Mathlib.Omega.{arith}
 use mathlib.Core.Path.{sym}
+use native.Mathlib.Omega.{arith}
 use lib.ListN.{List·getD-eq-default}
 use Rattle.line.proofs.Reading.{inside}
 use borrow.Author.Needs.{needs}

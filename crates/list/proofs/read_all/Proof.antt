@@ -1,7 +1,7 @@
 -- `read_all`: the invariant is that the bytes read are within the room, which keeps its length.
+use mathlib.Core.Path.{_≡_, subst}
 use Prim.Native.Nat.{_≤_, _-_}
 use native.Mathlib.Omega.{arith}
-use mathlib.Core.Path.{_≡_, subst}
 use lib.ListN.{length}
 use Rattle.list.specs.Input.{Within}
 use Rattle.list.specs.declared.Input.{Input}

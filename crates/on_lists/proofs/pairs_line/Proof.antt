@@ -1,11 +1,10 @@
 -- `pairs_line` refuses in 01's order; what the solver leaves is handed on to `argument`.
-use Rattle.on_lists.proofs.Asking.{settled, unlisted, line-few, line-short, line-given}
 use mathlib.Core.Logic.{inl}
 use mathlib.Core.Path.{refl}
 use native.Mathlib.Omega.{arith}
+use Rattle.on_lists.proofs.Asking.{settled, unlisted, line-few, line-short, line-given}
 use Rattle.pairs.specs.Refuses.{Lists}
 use Rattle.on_lists.proofs.Solving.{handed}
-use Rattle.on_lists.proofs.Asking.{settled, unlisted, line-short, line-given}
 use borrow.Author.Needs.{needs}
 use Rattle.on_lists.proofs.pairs_line.Statement.{statement}
 use Rattle.on_lists.proofs.pairs_line.Tie as tie

@@ -1,11 +1,10 @@
 -- `list_rooms` lends the beginnings of the rooms.
+use mathlib.Core.Path.{sym}
+use native.Mathlib.Omega.{arith}
 use Rattle.answer.specs.Answer.{Short}
 use Rattle.on_text.specs.Texts.{ListingIn, ListingShort}
-use Rattle.on_text.proofs.Solving.{text-promised}
-use native.Mathlib.Omega.{arith}
-use mathlib.Core.Path.{sym}
+use Rattle.on_text.proofs.Solving.{text-promised, few-listed, few-objections, rooms-ready, rooms-bounded}
 use Rattle.label.proofs.Parts.{part-length}
-use Rattle.on_text.proofs.Solving.{few-listed, few-objections, rooms-ready, rooms-short}
 use borrow.Author.Needs.{needs}
 use Rattle.on_text.proofs.list_rooms.Statement.{statement}
 use Rattle.on_text.proofs.list_rooms.Tie as tie
@@ -69,7 +68,7 @@ write-listing-requires c κs =
       pre .1 .1 .1 .0,
       rooms-ready (pre .1 .1 .0) numbers marks objectors targets labels lengths (args .n) (args .m) (pre .1 .1 .1)
           (pre .1 .0 .0) (pre .1 .0 .1),
-      rooms-short (pre .1 .1 .0) numbers marks objectors targets labels lengths (args .n)
+      rooms-bounded (pre .1 .1 .0) numbers marks objectors targets labels lengths (args .n)
           (args .m) (pre .1 .1 .1),
     )
 
@@ -85,7 +84,9 @@ returns c =
     λ s w. text-promised s (λ R. Short (ListingShort room R)) (λ R. ListingIn R room) (w .0) (w .1) room (write-listing .result)
     (write-listing .last .1 .1 .1 .1 .1 .1 .0) (write-listing .ensures (w .0)
     (rooms-ready s (args .numbers .now) (args .marks .now) (args .objectors .now) (args .targets .now) (args .labels .now)
-    (args .lengths .now) (args .n) (args .m) w (pre .1 .0 .0) (pre .1 .0 .1)))
+    (args .lengths .now) (args .n) (args .m) w (pre .1 .0 .0) (pre .1 .0 .1))
+    (rooms-bounded s (args .numbers .now) (args .marks .now) (args .objectors .now) (args .targets .now) (args .labels .now)
+    (args .lengths .now) (args .n) (args .m) w))
 
 pub list-rooms-spec : {M : Type 1} → statement M
 list-rooms-spec =

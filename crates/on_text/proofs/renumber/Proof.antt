@@ -1,7 +1,7 @@
 -- `renumber` tells each place by its number. The invariant: those passed are told, the others are as they were.
-use native.Mathlib.Omega.{arith}
-use Prim.Native.Nat.{_≤_, _-_}
 use mathlib.Core.Path.{_≡_, ap, _∙_}
+use Prim.Native.Nat.{_≤_, _-_}
+use native.Mathlib.Omega.{arith}
 use lib.ListN.{getD}
 use Rattle.answer.specs.Answer.{Begins}
 use Rattle.answer.proofs.Rooms.{begins-none, begins-more}

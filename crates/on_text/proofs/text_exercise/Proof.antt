@@ -1,7 +1,7 @@
 -- `text_exercise` asks of what reading left in the rooms.
-use native.Mathlib.Omega.{arith}
 use mathlib.Core.Logic.{inl}
 use mathlib.Core.Path.{refl}
+use native.Mathlib.Omega.{arith}
 use borrow.Author.Needs.{needs}
 use Rattle.on_text.proofs.text_exercise.Statement.{statement}
 use Rattle.on_text.proofs.text_exercise.Tie as tie

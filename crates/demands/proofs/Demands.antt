@@ -28,8 +28,10 @@ use Rattle.answer.specs.declared.Answer.the-variants.{Refused, Given}
 use Rattle.on_lists.specs.Lists.{ListsRefuse, KindsShort, PairsLabels, PairsLengths, PairsKinds, PairsLine, ExerciseGiven, PairsExercise, MovesLabels, MovesLengths}
 use Rattle.on_lists.specs.Lists as lists
 use Rattle.on_lists.proofs.Unique.{unique-pairs-labels, unique-pairs-lengths, unique-pairs-kinds, unique-pairs-line, unique-pairs-exercise}
-use Rattle.on_text.specs.Texts.{TextRefuses, ListingShort, Places, byNumber, LineIn, LineShort, LineRefused, ExerciseIn, TextLabels, TextLengths, TextListing, TextLine, TextExercise}
-use Rattle.on_text.proofs.Unique.{text-apart, place-once, unique-text-labels, unique-text-lengths, unique-text-listing, unique-text-line, unique-text-exercise}
+use Rattle.solved.specs.Solved.{TextRefuses, Places}
+use Rattle.solved.proofs.Laws.{text-apart, place-once}
+use Rattle.on_text.specs.Texts.{ListingShort, byNumber, LineIn, LineShort, LineRefused, ExerciseIn, TextLabels, TextLengths, TextListing, TextLine, TextExercise}
+use Rattle.on_text.proofs.Unique.{unique-text-labels, unique-text-lengths, unique-text-listing, unique-text-line, unique-text-exercise}
 use Rattle.batqemulo.specs.Demands.{Settled, Answers, LabelSays, LengthSays, KindSays}
 use Rattle.demands.proofs.Says.{label-says, length-says, kind-says}
 use Rattle.text.specs.Reads.{Accepts}

@@ -19,7 +19,8 @@ use Rattle.text.specs.Register.{Register, numbers, objectorNumbers, targetNumbe
 use Rattle.text.specs.State.{Holds}
 use Rattle.text.proofs.Order.{marks-counted, objectors-counted, targets-counted, register-in-order}
 use Rattle.text.proofs.Steps.{place-is, objector-entry, target-entry}
-use Rattle.listing.specs.Listing.{header, objectionRow, statementRows, objectionRows, listing, IsListing, Ready}
+use Rattle.solved.specs.Solved.{Ready}
+use Rattle.listing.specs.Listing.{header, objectionRow, statementRows, objectionRows, listing, IsListing}
 use Rattle.listing.specs.Room.{said, verdictAt, orIdle, kindAt, rowsTo, statementAt, objectionAt, statementPart, objectionPart, whole, Lists}
 use Rattle.listing.proofs.Rows.{rows-same, upTo, length-upTo, getD-upTo, statement-rows, objection-rows}
 use borrow.Author.Tests.{ne-eqb}

@@ -3,14 +3,12 @@
 -- order of the lines." No other listing is right: `IsListing` is all that a reader has to believe.
 use mathlib.Core.List.{List, [], _∷_, _++_}
 use mathlib.Core.Path.{_≡_}
-use Prim.Native.Nat.{ℕ, _≤_, _<_}
+use Prim.Native.Nat.{ℕ, _<_}
 use lib.ListN.{length, getD}
 use Rattle.game.specs.Label.{Verdict, is-open, stands, falls, Means}
 use Rattle.game.specs.Objection.{OfKind}
 use Rattle.game.specs.declared.Kind.{Kind}
 use Rattle.game.specs.declared.Kind.the-variants.{Idle, Felling, Delaying, Standoff}
-use Rattle.text.specs.State.{Made}
-use Rattle.label.specs.Labelled.{Labelled}
 use Rattle.line.specs.Number.{decimal, numberBytes}
 use Rattle.line.specs.declared.StatementLine.{StatementLine}
 use Rattle.line.specs.declared.ObjectionLine.{ObjectionLine}
@@ -95,11 +93,3 @@ pub record IsListing (R : Register) (l : List ℕ) : Type 0 where
   pub of-kind : (k : ℕ) → k < length (R .objections)
       → OfKind (book R) (getD (objectorsOf R) k 0) (getD (targetsOf R) k 0) (getD kinds k Idle)
   pub is : l ≡ listing R verdicts kinds
-
--- What the program is given: a register that is in order, as lists of just its length, with the labels and lengths of its
--- statements in lists of that length or longer.
-pub record Ready (R : Register) (nums marks objectors targets labels lengths : List ℕ) : Type 0 where
-  pub made : Made R nums marks objectors targets
-  pub labels-room : length (R .statements) ≤ length labels
-  pub lengths-room : length (R .statements) ≤ length lengths
-  pub labelled : Labelled (book R) labels lengths

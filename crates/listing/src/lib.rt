@@ -8,7 +8,8 @@ ghost use Prim.Native.Nat.{ℕ, _≤_, _<_};
 ghost use lib.ListN.{length, drop};
 ghost use Rattle.line.specs.Number.{decimal};
 ghost use Rattle.text.specs.Register.{Register};
-ghost use Rattle.listing.specs.Listing.{numbersRow, header, refusedRow, statementRow, objectionRow, IsListing, Ready};
+ghost use Rattle.solved.specs.Solved.{Ready};
+ghost use Rattle.listing.specs.Listing.{numbersRow, header, refusedRow, statementRow, objectionRow, IsListing};
 ghost use Rattle.listing.specs.Room.{Fits, Put, twoDigits, verdictFields, kindFields, said, statementPart, objectionPart, Lists};
 
 // How many digits a number has.

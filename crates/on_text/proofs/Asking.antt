@@ -11,19 +11,18 @@ use Rattle.game.specs.Book.{bookOf}
 use Rattle.game.specs.Find.{Found}
 use Rattle.game.specs.Line.{Line}
 use Rattle.game.proofs.Line.{line-bound, line-listed}
-use Rattle.chain.specs.Handed.{Handed}
 use Rattle.label.proofs.Parts.{beyond}
 use Rattle.argument.specs.Argument.{Lined, Settled}
 use Rattle.exercise.specs.Exercise.{Answered}
 use Rattle.text.specs.Register.{Register, numbers, Issued, book}
 use Rattle.text.specs.State.{Made}
-use Rattle.text.proofs.Order.{mapped, marks-counted, numbers-counted}
-use Rattle.listing.specs.Listing.{Ready}
-use Rattle.refusal.specs.declared.Refusal.the-variants.{Room, Asked, Turns}
+use Rattle.text.proofs.Order.{mapped, marks-counted}
+use Rattle.solved.specs.Solved.{Places, Ready}
+use Rattle.solved.proofs.Asked.{lists-handed, counted, book-is, place}
+use Rattle.refusal.specs.declared.Refusal.the-variants.{Room, Turns}
 use Rattle.answer.specs.Answer.{Begins, Asks}
 use Rattle.answer.specs.declared.Answer.the-variants.{Refused, Given}
-use Rattle.on_text.specs.Texts.{Places, byNumber, LineWritten, ExerciseAnswered}
-use Rattle.on_text.proofs.Solving.{register-handed}
+use Rattle.on_text.specs.Texts.{byNumber, LineWritten, ExerciseAnswered}
 
 -- a room that begins with a list, once its entries are told by f
 pub retold : (f : ℕ → ℕ) (l room line after : List ℕ) → line ≡ l ++ drop (length l) room → length l ≤ length room
@@ -44,92 +43,80 @@ retold f l room line after e h b = ext-getD 0 after (map f l ++ drop (length l) 
         b .rest k (omega arith) ∙ ap (λ (u : List ℕ). getD u k 0) e ∙ beyond (length l) room l refl k (omega arith)
         ∙ sym (beyond (length l) room (map f l) (length-map l f) k (omega arith))
 
-module _ (R : Register) (nums marks objectors targets : List ℕ) (made : Made R nums marks objectors targets) where
-  pub lists-handed : Handed marks objectors targets
-  lists-handed = rw (made .marks-are, made .objectors-are, made .targets-are) (register-handed R (made .valid))
+module _ (R : Register) (nums marks objectors targets : List ℕ) (made : Made R nums marks objectors targets) (number x : ℕ)
+    (f : Found (λ i. getD nums i 0 ≡ number) (length nums) x) (h : x < length nums) where
+  there : Places R number x
+  there = place R nums marks objectors targets made number x f h
 
-  pub counted : length nums ≡ length marks
-  counted = ap length (made .numbers-are) ∙ numbers-counted R (made .valid) ∙ sym (ap length (made .marks-are))
+  same-book : bookOf marks objectors targets ≡ book R
+  same-book = book-is R nums marks objectors targets made
 
-  book-is : bookOf marks objectors targets ≡ book R
-  book-is = rw (made .marks-are, made .objectors-are, made .targets-are) refl
+  same-count : length nums ≡ length marks
+  same-count = counted R nums marks objectors targets made
 
-  module _ (number x : ℕ) (f : Found (λ i. getD nums i 0 ≡ number) (length nums) x) where
-    pub unlisted : (turns : ℕ) (short : Type 0) → length nums ≤ x → Asks (Issued R number) turns short Asked
-    unlisted turns short h =
-        inl (
-          λ w. f .1 (w .0) (omega (arith, w .1, ap length (made .numbers-are)))
-              (ap (λ (u : List ℕ). getD u (w .0) 0) (made .numbers-are) ∙ w .2),
-          refl,
+  pub too-many : (turns within : ℕ) → within ≡ turns → 6 < within → Asks (Issued R number) turns ⊥ Turns
+  too-many turns within e g = inr (inl ((x, there .0, there .1), omega arith, refl))
+
+  pub exercise-given : (turns within answer : ℕ) → within ≡ turns → within ≤ 6
+      → Answered (bookOf marks objectors targets) x within answer → ExerciseAnswered R number turns (Given answer)
+  exercise-given turns within answer e g p =
+      (omega arith, (x, there, rw e at (subst (λ B. Answered B x within answer) same-book p)))
+
+  module _ (room line : List ℕ) (n : ℕ) (p : Lined (bookOf marks objectors targets) x room n line)
+      (same : length line ≡ length room) where
+    is-line : Line (book R) x (p .line)
+    is-line = subst (λ B. Line B x (p .line)) same-book (p .is-line)
+
+    pub line-few : n ≤ 1024
+    unfolding bookOf
+    line-few =
+        omega (
+          arith,
+          p .counts,
+          line-bound (bookOf marks objectors targets) x (p .line) (omega (arith, same-count))
+              (p .is-line),
+          lists-handed R nums marks objectors targets made .few-marks,
         )
 
-    module _ (h : x < length nums) where
-      place : Places R number x
-      place = (omega (arith, ap length (made .numbers-are)), sym (ap (λ (u : List ℕ). getD u x 0) (made .numbers-are)) ∙ f .2 h)
+    pub line-short : length line < n → LineWritten R number room (Refused Room) line
+    line-short g = (
+      inr (inr ((x, there .0, there .1), omega arith, ((x, there, (p .line, is-line, omega (arith, p .counts))), refl))),
+      p .short (omega (arith, p .counts)),
+    )
 
-      pub too-many : (turns within : ℕ) → within ≡ turns → 6 < within → Asks (Issued R number) turns ⊥ Turns
-      too-many turns within e g = inr (inl ((x, place .0, place .1), omega arith, refl))
+    written : n ≤ length line → line ≡ p .line ++ drop (length (p .line)) room
+    written g = p .fits (omega (arith, p .counts))
 
-      pub exercise-given : (turns within answer : ℕ) → within ≡ turns → within ≤ 6
-          → Answered (bookOf marks objectors targets) x within answer → ExerciseAnswered R number turns (Given answer)
-      exercise-given turns within answer e g p =
-          (omega arith, (x, place, rw e at (subst (λ B. Answered B x within answer) book-is p)))
+    pub places-listed : n ≤ length line → (k : ℕ) → k < n → getD line k 0 < length nums
+    unfolding bookOf
+    places-listed g k i =
+        let j : k < length (p .line) = omega (arith, p .counts) in
+        let e : getD line k 0 ≡ getD (p .line) k 0 = ap (λ (u : List ℕ). getD u k 0) (written g)
+        ∙ List·getD-append (p .line) (drop (length (p .line)) room) 0 k j in
+        omega (arith, e, line-listed (bookOf marks objectors targets) (omega (arith, same-count)) (p .is-line) k j, same-count)
 
-      module _ (room line : List ℕ) (n : ℕ) (p : Lined (bookOf marks objectors targets) x room n line)
-          (same : length line ≡ length room) where
-        is-line : Line (book R) x (p .line)
-        is-line = subst (λ B. Line B x (p .line)) book-is (p .is-line)
-
-        pub line-few : n ≤ 1024
-        unfolding bookOf
-        line-few =
-            omega (
-              arith,
-              p .counts,
-              line-bound (bookOf marks objectors targets) x (p .line) (omega (arith, counted))
-                  (p .is-line),
-              lists-handed .few-marks,
-            )
-
-        pub line-short : length line < n → LineWritten R number room (Refused Room) line
-        line-short g = (
-          inr (inr ((x, place .0, place .1), omega arith, ((x, place, (p .line, is-line, omega (arith, p .counts))), refl))),
-          p .short (omega (arith, p .counts)),
+    pub line-given : n ≤ length line → (after : List ℕ) → Begins n (λ k e. e ≡ getD nums (getD line k 0) 0) line after
+        → LineWritten R number room (Given n) after
+    line-given g after b =
+        let c : length (byNumber R (p .line)) ≡ length (p .line) = length-map (p .line) (λ i. getD (numbers R) i 0) in (
+          x,
+          there,
+          (
+            p .line,
+            is-line,
+            (
+              p .counts ∙ sym c,
+              omega (arith, p .counts, c),
+              told
+                  ∙ ap (λ i. byNumber R (p .line) ++ drop i room) (sym c),
+            ),
+          ),
         )
-
-        written : n ≤ length line → line ≡ p .line ++ drop (length (p .line)) room
-        written g = p .fits (omega (arith, p .counts))
-
-        pub places-listed : n ≤ length line → (k : ℕ) → k < n → getD line k 0 < length nums
-        unfolding bookOf
-        places-listed g k i =
-            let j : k < length (p .line) = omega (arith, p .counts) in
-            let e : getD line k 0 ≡ getD (p .line) k 0 = ap (λ (u : List ℕ). getD u k 0) (written g)
-            ∙ List·getD-append (p .line) (drop (length (p .line)) room) 0 k j in
-            omega (arith, e, line-listed (bookOf marks objectors targets) (omega (arith, counted)) (p .is-line) k j, counted)
-
-        pub line-given : n ≤ length line → (after : List ℕ) → Begins n (λ k e. e ≡ getD nums (getD line k 0) 0) line after
-            → LineWritten R number room (Given n) after
-        line-given g after b =
-            let c : length (byNumber R (p .line)) ≡ length (p .line) = length-map (p .line) (λ i. getD (numbers R) i 0) in (
-              x,
-              place,
-              (
-                p .line,
-                is-line,
-                (
-                  p .counts ∙ sym c,
-                  omega (arith, p .counts, c),
-                  told
-                      ∙ ap (λ i. byNumber R (p .line) ++ drop i room) (sym c),
-                ),
-              ),
-            )
-          where
-            told : after ≡ byNumber R (p .line) ++ drop (length (p .line)) room
-            told =
-                rw (made .numbers-are) at (retold (λ i. getD nums i 0) (p .line) room line after (written g)
-                (omega (arith, p .counts)) (rw (p .counts) at b))
+      where
+        told : after ≡ byNumber R (p .line) ++ drop (length (p .line)) room
+        told =
+            rw (made .numbers-are) at (retold (λ i. getD nums i 0) (p .line) room line after (written g)
+            (omega (arith, p .counts)) (rw (p .counts) at b))
 
 -- what is ready to be listed is ready for its lines of argument
 pub ready-settled : (R : Register) (nums marks objectors targets labels lengths : List ℕ)

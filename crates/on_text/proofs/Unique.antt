@@ -1,9 +1,8 @@
 -- Every promise on a text leaves one answer and one content of the rooms: `unique-CALL` for each call.
 use mathlib.Core.List.{List}
-use mathlib.Core.Logic.{inl, inr, ⊎-elim, _↔_}
+use mathlib.Core.Logic.{inr, ⊎-elim, _↔_}
 use mathlib.Core.Path.{_≡_, refl, sym, _∙_, ap, subst}
 use Prim.Native.Nat.{ℕ, _≤_, _<_}
-use native.Mathlib.Decide.{decLt}
 use native.Mathlib.Omega.{arith}
 use lib.ListN.{length, getD, length-map}
 use Rattle.game.specs.Label.{Verdict, Means}
@@ -12,7 +11,7 @@ use Rattle.game.proofs.Verdict.{number-unique}
 use Rattle.game.proofs.Line.{line-unique}
 use Rattle.exercise.specs.Exercise.{Answered}
 use Rattle.exercise.proofs.Exercise.{answered-once}
-use Rattle.text.specs.Register.{Register, Valid, numbers, Issued, book}
+use Rattle.text.specs.Register.{Register, numbers, Issued, book}
 use Rattle.text.proofs.Unique as text
 use Rattle.listing.specs.Listing.{IsListing}
 use Rattle.listing.proofs.Listing.{listing-once}
@@ -23,39 +22,19 @@ use Rattle.answer.specs.declared.Answer.{Answer}
 use Rattle.answer.specs.declared.Answer.the-variants.{Refused}
 use Rattle.answer.proofs.Rooms.{begins-unique, written-unique}
 use Rattle.answer.proofs.Promises.{through, promised-unique, refused-exactly, Exactly, short-once, asks-once, asks-none, asks-14, asks-15, asks-10}
-use Rattle.on_text.specs.Texts.{TextRefuses, StatementsGiven, TextStatements, TextLabels, TextLengths, ListingIn, ListingShort, TextListing, Places, byNumber, LineIn, LineShort, LineRefused, TextLine, ExerciseIn, TextExercise}
+use Rattle.solved.specs.Solved.{TextRefuses}
+use Rattle.solved.proofs.Laws.{place-once, text-once, text-apart}
+use Rattle.on_text.specs.Texts.{StatementsGiven, TextStatements, TextLabels, TextLengths, ListingIn, ListingShort, TextListing, byNumber, LineIn, LineShort, LineRefused, TextLine, ExerciseIn, TextExercise}
 use Rattle.text.specs.Reads.{Accepts, Refuses}
 
--- a number stands at one place
-pub place-once : (R : Register) → Valid R → (number x x′ : ℕ) → Places R number x → Places R number x′ → x ≡ x′
-place-once R v number x x′ (h, e) (h′, e′) = go (decLt x x′) (decLt x′ x)
-  where
-    go : Dec (x < x′) → Dec (x′ < x) → x ≡ x′
-    go (yes l) d = absurd (v .once x x′ l h′ (e ∙ sym e′))
-    go (no n) (yes l) = absurd (v .once x′ x l h (e′ ∙ sym e))
-    go (no n) (no m) = omega arith
-
--- A text is the written form of one register at most, so its refusals and answers are one too.
+-- A text is the written form of one register at most, so its answers are one too.
 module _ (s : List ℕ) where
-  module _ (later : Register → Refusal → Type 0) where
-    pub text-once : ((R : Register) (r r′ : Refusal) → later R r → later R r′ → r ≡ r′) → (r r′ : Refusal) → TextRefuses s later r
-        → TextRefuses s later r′ → r ≡ r′
-    text-once one r r′ (inl p) (inl q) = text.refuses-once s r r′ p q
-    text-once one r r′ (inl p) (inr q) = absurd (text.not-both s (q .0) r (q .1) p)
-    text-once one r r′ (inr p) (inl q) = absurd (text.not-both s (p .0) r′ (p .1) q)
-    text-once one r r′ (inr p) (inr q) =
-        one (q .0) r r′ (subst (λ R. later R r) (text.accepts-once s (p .0) (q .0) (p .1) (q .1)) (p .2)) (q .2)
-
-    pub text-apart : (r : Refusal) (R : Register) → TextRefuses s later r → Accepts s R → ¬ later R r → ⊥
-    text-apart r R (inl p) a n = text.not-both s R r a p
-    text-apart r R (inr p) a n = n (subst (λ R. later R r) (text.accepts-once s (p .0) R (p .1) a) (p .2))
-
   text-statements-unique : (number : Verdict → ℕ) (room : List ℕ) (a a′ : Answer) (after after′ : List ℕ)
       → TextStatements s number room a after → TextStatements s number room a′ after′ → (a ≡ a′) × (after ≡ after′)
   text-statements-unique number room =
       promised-unique (TextRefuses s later) (StatementsGiven s number room)
-      (text-once later (λ R. short-once (length room < length (R .statements))))
-      (λ r n after p g. text-apart later r (g .0) p (g .1) (λ h. omega (arith, h .0, g .2, g .3 .fits))) same room
+      (text-once s later (λ R. short-once (length room < length (R .statements))))
+      (λ r n after p g. text-apart s later r (g .0) p (g .1) (λ h. omega (arith, h .0, g .2, g .3 .fits))) same room
     where
       later : Register → Refusal → Type 0
       later R = Short (length room < length (R .statements))
@@ -84,8 +63,8 @@ module _ (s : List ℕ) where
   pub unique-text-listing : (room : List ℕ) (a a′ : Answer) (after after′ : List ℕ) → TextListing s room a after
       → TextListing s room a′ after′ → (a ≡ a′) × (after ≡ after′)
   unique-text-listing room =
-      promised-unique (TextRefuses s later) Gives (text-once later (λ R. short-once (ListingShort room R)))
-      (λ r n after p g. text-apart later r (g .0) p (g .1) (λ h. fits n after g (h .0))) same room
+      promised-unique (TextRefuses s later) Gives (text-once s later (λ R. short-once (ListingShort room R)))
+      (λ r n after p g. text-apart s later r (g .0) p (g .1) (λ h. fits n after g (h .0))) same room
     where
       later : Register → Refusal → Type 0
       later R = Short (ListingShort room R)
@@ -106,7 +85,7 @@ module _ (s : List ℕ) where
     line-apart : (room : List ℕ) (r : Refusal) (n : ℕ) (after : List ℕ) → TextRefuses s (λ R. LineRefused R number room) r
         → (R : Register) × Accepts s R × LineIn R number room n after → ⊥
     line-apart room r n after p (R, a, (x, h, (l, is, (c, f, e)))) =
-        text-apart (λ R. LineRefused R number room) r R p a (λ q.
+        text-apart s (λ R. LineRefused R number room) r R p a (λ q.
         asks-none (Issued R number) 0 (LineShort R number room) r q (x, h .0, h .1) (omega arith) (λ (x′, h′, (l′, is′, t)).
         omega (
           arith,
@@ -120,7 +99,7 @@ module _ (s : List ℕ) where
     pub unique-text-line : (room : List ℕ) (a a′ : Answer) (after after′ : List ℕ) → TextLine s number room a after
         → TextLine s number room a′ after′ → (a ≡ a′) × (after ≡ after′)
     unique-text-line room =
-        promised-unique (TextRefuses s later) Gives (text-once later
+        promised-unique (TextRefuses s later) Gives (text-once s later
         (λ R. asks-once (Issued R number) 0 (LineShort R number room))) (line-apart room) same room
       where
         later : Register → Refusal → Type 0
@@ -144,12 +123,12 @@ module _ (s : List ℕ) where
       exercise-apart : (r : Refusal) (n : ℕ) (after : Unit {0}) → TextRefuses s (λ R. Asks (Issued R number) turns ⊥) r
           → (R : Register) × Accepts s R × ExerciseIn R number turns n after → ⊥
       exercise-apart r n after p (R, a, (few, (x, h, is))) =
-          text-apart (λ R. Asks (Issued R number) turns ⊥) r R p a
+          text-apart s (λ R. Asks (Issued R number) turns ⊥) r R p a
           (λ q. asks-none (Issued R number) turns ⊥ r q (x, h .0, h .1) few (λ z. z))
 
       pub unique-text-exercise : (a a′ : Answer) → TextExercise s number turns a → TextExercise s number turns a′ → a ≡ a′
       unique-text-exercise a a′ p q =
-          promised-unique (TextRefuses s later) Gives (text-once later (λ R. asks-once (Issued R number) turns ⊥)) exercise-apart
+          promised-unique (TextRefuses s later) Gives (text-once s later (λ R. asks-once (Issued R number) turns ⊥)) exercise-apart
           same tt a a′ tt tt p q .0
         where
           later : Register → Refusal → Type 0
@@ -201,7 +180,7 @@ module _ (s : List ℕ) where
 
         due : (r : Refusal) → (a ≡ Refused r) ↔ TextRefuses s later r
         due =
-            refused-exactly (TextRefuses s later) gives (text-once later (λ R. asks-once (Issued R number) turns (short R))) apart
+            refused-exactly (TextRefuses s later) gives (text-once s later (λ R. asks-once (Issued R number) turns (short R))) apart
             rooms a after p
 
   pub exactly-text-line : (number : ℕ) (room : List ℕ) (a : Answer) (after : List ℕ) → TextLine s number room a after

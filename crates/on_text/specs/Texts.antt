@@ -2,23 +2,19 @@
 -- written form of.
 use mathlib.Core.Bool.{Bool, true, false}
 use mathlib.Core.List.{List, map}
-use mathlib.Core.Logic.{_⊎_}
 use mathlib.Core.Path.{_≡_}
 use Prim.Native.Nat.{ℕ, _≤_, _<_}
 use lib.ListN.{length, getD}
 use Rattle.game.specs.Line.{Line}
 use Rattle.game.specs.Label.{Verdict, Means, labelNumber, lengthNumber}
-use Rattle.label.specs.Labelled.{Labelled}
 use Rattle.text.specs.Register.{Register, numbers, Issued, book}
 use Rattle.exercise.specs.Exercise.{Answered}
-use Rattle.text.specs.State.{Holds}
-use Rattle.text.specs.declared.Reading.{Reading}
-use Rattle.text.specs.declared.Reading.the-variants.{Whole, Refused}
+use Rattle.solved.specs.Solved.{TextRefuses, Places}
 use Rattle.listing.specs.Listing.{IsListing}
 use Rattle.refusal.specs.declared.Refusal.{Refusal}
 use Rattle.answer.specs.Answer.{Promised, Begins, Written, Short, Asks}
 use Rattle.answer.specs.declared.Answer.{Answer}
-use Rattle.text.specs.Reads.{Accepts, Refuses}
+use Rattle.text.specs.Reads.{Accepts}
 
 -- the room holds the register's listing, n bytes; the room is shorter than that
 abbrev pub ListingIn : Register → List ℕ → ℕ → List ℕ → Type 0
@@ -39,10 +35,7 @@ HasRoom R room false = (l : List ℕ) × IsListing R l × (room < length l)
 abbrev pub ListingWritten : Register → List ℕ → Answer → List ℕ → Type 0
 ListingWritten R room a after = Promised (Short (ListingShort room R)) (ListingIn R room) room a after
 
--- the statement of this number is at the place x; places told by their numbers
-abbrev pub Places : Register → ℕ → ℕ → Type 0
-Places R number x = (x < length (numbers R)) × (getD (numbers R) x 0 ≡ number)
-
+-- places told by their numbers
 abbrev pub byNumber : Register → List ℕ → List ℕ
 byNumber R l = map (λ x. getD (numbers R) x 0) l
 
@@ -70,10 +63,6 @@ abbrev pub ExerciseAnswered : Register → (number turns : ℕ) → Answer → T
 ExerciseAnswered R number turns a = Promised (Asks (Issued R number) turns ⊥) (ExerciseIn R number turns) tt a tt
 
 module _ (text : List ℕ) where
-  -- the refusals of the text, then those of what is asked of its register
-  abbrev pub TextRefuses : (Register → Refusal → Type 0) → Refusal → Type 0
-  TextRefuses later r = Refuses text r ⊎ ((R : Register) × Accepts text R × later R r)
-
   -- a number for each statement, in listed order
   abbrev pub StatementsGiven : (Verdict → ℕ) → List ℕ → ℕ → List ℕ → Type 0
   StatementsGiven number room n after =
@@ -82,7 +71,7 @@ module _ (text : List ℕ) where
 
   abbrev pub TextStatements : (Verdict → ℕ) → List ℕ → Answer → List ℕ → Type 0
   TextStatements number room a after =
-      Promised (TextRefuses (λ R. Short (length room < length (R .statements)))) (StatementsGiven number room) room a after
+      Promised (TextRefuses text (λ R. Short (length room < length (R .statements)))) (StatementsGiven number room) room a after
 
   abbrev pub TextLabels : List ℕ → Answer → List ℕ → Type 0
   TextLabels = TextStatements labelNumber
@@ -93,23 +82,17 @@ module _ (text : List ℕ) where
   -- the listing of the register, in a room that is long enough; "room beyond it stays as found"
   abbrev pub TextListing : List ℕ → Answer → List ℕ → Type 0
   TextListing room a after =
-      Promised (TextRefuses (λ R. Short (ListingShort room R)))
+      Promised (TextRefuses text (λ R. Short (ListingShort room R)))
       (λ n after. (R : Register) × Accepts text R × ListingIn R room n after) room a after
 
   -- the line of argument of the statement of a number
   abbrev pub TextLine : (number : ℕ) → List ℕ → Answer → List ℕ → Type 0
   TextLine number room a after =
-      Promised (TextRefuses (λ R. LineRefused R number room))
+      Promised (TextRefuses text (λ R. LineRefused R number room))
       (λ n after. (R : Register) × Accepts text R × LineIn R number room n after) room a after
 
   -- what the class exercise answers; it lends no room
   abbrev pub TextExercise : (number turns : ℕ) → Answer → Type 0
   TextExercise number turns a =
-      Promised (TextRefuses (λ R. Asks (Issued R number) turns ⊥))
+      Promised (TextRefuses text (λ R. Asks (Issued R number) turns ⊥))
       (λ n after. (R : Register) × Accepts text R × ExerciseIn R number turns n after) tt a tt
-
-  -- Not for callers: the text is read into rooms, and its statements are labelled.
-  abbrev pub SolvedText : (nums marks objectors targets labels lengths : List ℕ) → Reading → Type 0
-  SolvedText nums marks objectors targets labels lengths (Whole n m) =
-      (R : Register) × Accepts text R × Holds R n m nums marks objectors targets × Labelled (book R) labels lengths
-  SolvedText nums marks objectors targets labels lengths (Refused r) = Refuses text r

@@ -1,64 +1,18 @@
-// The public calls on a register text. Each reads the text into rooms of its own, labels the register, and writes its answer only
-// where there is room for all of it.
+// The public calls on a register text. Each has it read and labelled in rooms of its own, and writes its answer only where there
+// is room for all of it.
 use answer::Answer;
 use refusal::Refusal;
 use text::Reading;
 ghost use mathlib.Core.List.{List};
 ghost use mathlib.Core.Path.{_≡_};
 ghost use Prim.Native.Nat.{ℕ, _≤_, _<_};
-ghost use lib.ListN.{length, getD, take};
-ghost use Rattle.chain.specs.Handed.{Handed};
-ghost use Rattle.label.specs.Labelled.{Solved};
+ghost use lib.ListN.{length, getD};
 ghost use Rattle.text.specs.Register.{Register};
 ghost use Rattle.text.specs.State.{Made, Spacious, ReadsTo};
 ghost use Rattle.text.specs.declared.Reading.the-variants.{Whole};
-ghost use Rattle.listing.specs.Listing.{Ready};
+ghost use Rattle.solved.specs.Solved.{Ready, SolvedText};
 ghost use Rattle.answer.specs.Answer.{Begins};
-ghost use Rattle.on_text.specs.Texts.{TextLabels, TextLengths, TextListing, TextLine, TextExercise, Bounded, HasRoom, ListingWritten, LineWritten, ExerciseAnswered, SolvedText};
-
-// Labels the n statements and m objections that rooms begin with.
-fn solve_rooms(
-    marks: &[u8],
-    objectors: &[u32],
-    targets: &[u32],
-    n: usize,
-    m: usize,
-    labels: &mut [u8],
-    lengths: &mut [u16],
-)
-    requires { ⌜ (n ≤ length (now marks)) × (m ≤ length (now objectors)) × (m ≤ length (now targets)) ⌝ }
-    requires { ⌜ Handed (take n (now marks)) (take m (now objectors)) (take m (now targets)) ⌝ }
-    requires { ⌜ (n ≤ length (now labels)) × (n ≤ length (now lengths)) ⌝ }
-    ensures { λ _. ⌜ Solved (take n (now (marks .entry))) (take m (now (objectors .entry))) (take m (now (targets .entry)))
-        (now (labels .entry)) (now (lengths .entry)) (now (labels .exit)) (now (lengths .exit)) ⌝ }
-{
-    label::solve(&marks[..n], &objectors[..m], &targets[..m], labels, lengths);
-}
-
-// Reads a text and labels its register, all in lent rooms.
-fn solve_text(
-    text: &[u8],
-    numbers: &mut [u32],
-    marks: &mut [u8],
-    objectors: &mut [u32],
-    targets: &mut [u32],
-    labels: &mut [u8],
-    lengths: &mut [u16],
-) -> Reading
-    requires { ⌜ Spacious (now numbers) (now marks) (now objectors) (now targets) ⌝ }
-    requires { ⌜ (1024 ≤ length (now labels)) × (1024 ≤ length (now lengths)) ⌝ }
-    ensures { λ r. ⌜ SolvedText (now (text .entry)) (now (numbers .exit)) (now (marks .exit)) (now (objectors .exit))
-        (now (targets .exit)) (now (labels .exit)) (now (lengths .exit)) r ⌝ }
-{
-    let reading = text::read(text, numbers, marks, objectors, targets);
-    match reading {
-        Reading::Refused(refusal) => Reading::Refused(refusal),
-        Reading::Whole(n, m) => {
-            solve_rooms(marks, objectors, targets, n, m, labels, lengths);
-            Reading::Whole(n, m)
-        }
-    }
-}
+ghost use Rattle.on_text.specs.Texts.{TextLabels, TextLengths, TextListing, TextLine, TextExercise, Bounded, HasRoom, ListingWritten, LineWritten, ExerciseAnswered};
 
 fn copy_labels(from: &[u8], n: usize, room: &mut [u8])
     requires { ⌜ (n ≤ length (now from)) × (n ≤ length (now room)) ⌝ }
@@ -92,7 +46,7 @@ pub fn text_labels(text: &[u8], room: &mut [u8]) -> Answer
     let mut targets = [0u32; 4096];
     let mut labels = [0u8; 1024];
     let mut lengths = [0u16; 1024];
-    let reading = solve_text(
+    let reading = solved::solve_text(
         text,
         &mut numbers,
         &mut marks,
@@ -123,7 +77,7 @@ pub fn text_lengths(text: &[u8], room: &mut [u16]) -> Answer
     let mut targets = [0u32; 4096];
     let mut labels = [0u8; 1024];
     let mut lengths = [0u16; 1024];
-    let reading = solve_text(
+    let reading = solved::solve_text(
         text,
         &mut numbers,
         &mut marks,
@@ -239,7 +193,7 @@ pub fn text_listing(text: &[u8], room: &mut [u8]) -> Answer
     let mut targets = [0u32; 4096];
     let mut labels = [0u8; 1024];
     let mut lengths = [0u16; 1024];
-    let reading = solve_text(
+    let reading = solved::solve_text(
         text,
         &mut numbers,
         &mut marks,
@@ -350,7 +304,7 @@ pub fn text_line(text: &[u8], number: u32, line: &mut [u32]) -> Answer
     let mut targets = [0u32; 4096];
     let mut labels = [0u8; 1024];
     let mut lengths = [0u16; 1024];
-    let reading = solve_text(
+    let reading = solved::solve_text(
         text,
         &mut numbers,
         &mut marks,

@@ -1,7 +1,8 @@
 -- `ask_exercise` refuses in 01's order, and else asks `exercise`.
 use mathlib.Core.Path.{refl}
 use native.Mathlib.Omega.{arith}
-use Rattle.on_text.proofs.Asking.{lists-handed, counted, unlisted, too-many, exercise-given}
+use Rattle.solved.proofs.Asked.{lists-handed, counted, unlisted}
+use Rattle.on_text.proofs.Asking.{too-many, exercise-given}
 use borrow.Author.Needs.{needs}
 use Rattle.on_text.proofs.ask_exercise.Statement.{statement}
 use Rattle.on_text.proofs.ask_exercise.Tie as tie

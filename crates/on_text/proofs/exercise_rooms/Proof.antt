@@ -5,7 +5,8 @@ use Rattle.label.proofs.Parts.{part-length}
 use Rattle.text.specs.Register.{Issued}
 use Rattle.answer.specs.Answer.{Asks}
 use Rattle.on_text.specs.Texts.{ExerciseIn}
-use Rattle.on_text.proofs.Solving.{few, made, text-promised}
+use Rattle.solved.proofs.Laws.{text-promised}
+use Rattle.solved.proofs.Rooms.{few, made}
 use Rattle.on_text.proofs.exercise_rooms.Statement.{statement}
 use Rattle.on_text.proofs.exercise_rooms.Tie as tie
 

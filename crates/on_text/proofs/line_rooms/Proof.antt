@@ -3,7 +3,8 @@ use mathlib.Core.Path.{sym}
 use native.Mathlib.Omega.{arith}
 use Rattle.label.proofs.Parts.{part-length}
 use Rattle.on_text.specs.Texts.{LineIn, LineRefused}
-use Rattle.on_text.proofs.Solving.{few-listed, few-objections, rooms-ready, text-promised}
+use Rattle.solved.proofs.Laws.{text-promised}
+use Rattle.solved.proofs.Rooms.{few-listed, few-objections, rooms-ready}
 use borrow.Author.Needs.{needs}
 use Rattle.on_text.proofs.line_rooms.Statement.{statement}
 use Rattle.on_text.proofs.line_rooms.Tie as tie

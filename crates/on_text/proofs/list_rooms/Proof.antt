@@ -3,7 +3,9 @@ use mathlib.Core.Path.{sym}
 use native.Mathlib.Omega.{arith}
 use Rattle.answer.specs.Answer.{Short}
 use Rattle.on_text.specs.Texts.{ListingIn, ListingShort}
-use Rattle.on_text.proofs.Solving.{text-promised, few-listed, few-objections, rooms-ready, rooms-bounded}
+use Rattle.solved.proofs.Laws.{text-promised}
+use Rattle.solved.proofs.Rooms.{few-listed, few-objections, rooms-ready}
+use Rattle.on_text.proofs.Solving.{rooms-bounded}
 use Rattle.label.proofs.Parts.{part-length}
 use borrow.Author.Needs.{needs}
 use Rattle.on_text.proofs.list_rooms.Statement.{statement}

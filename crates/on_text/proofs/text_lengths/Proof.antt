@@ -2,7 +2,8 @@
 use mathlib.Core.Logic.{inl}
 use mathlib.Core.Path.{refl}
 use native.Mathlib.Omega.{arith}
-use Rattle.on_text.proofs.Solving.{few-listed, room-short, lengths-given}
+use Rattle.solved.proofs.Rooms.{few-listed}
+use Rattle.on_text.proofs.Solving.{room-short, lengths-given}
 use borrow.Author.Needs.{needs}
 use Rattle.on_text.proofs.text_lengths.Statement.{statement}
 use Rattle.on_text.proofs.text_lengths.Tie as tie

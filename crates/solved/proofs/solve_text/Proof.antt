@@ -1,9 +1,9 @@
 -- `solve_text` hands the rooms that reading left on to the solver.
 use native.Mathlib.Omega.{arith}
-use Rattle.on_text.proofs.Solving.{few, rooms-handed, rooms-solved}
+use Rattle.solved.proofs.Rooms.{few, rooms-handed, rooms-solved}
 use borrow.Author.Needs.{needs}
-use Rattle.on_text.proofs.solve_text.Statement.{statement}
-use Rattle.on_text.proofs.solve_text.Tie as tie
+use Rattle.solved.proofs.solve_text.Statement.{statement}
+use Rattle.solved.proofs.solve_text.Tie as tie
 
 read-requires : tie.Need-read-requires
 read-requires c κs = search needs

@@ -2,8 +2,8 @@
 use mathlib.Core.Path.{sym}
 use Rattle.label.proofs.Parts.{part-length}
 use borrow.Author.Needs.{needs}
-use Rattle.on_text.proofs.solve_rooms.Statement.{statement}
-use Rattle.on_text.proofs.solve_rooms.Tie as tie
+use Rattle.solved.proofs.solve_rooms.Statement.{statement}
+use Rattle.solved.proofs.solve_rooms.Tie as tie
 
 slice-aggregate-solve : tie.Need-slice-aggregate-solve
 slice-aggregate-solve c =

@@ -10,7 +10,7 @@ cd "$(dirname "$0")/.." || exit 1
 # stage: a folder that stands for the root of a machine; prefix: where the files go on it
 stage=$(mktemp -d)
 trap 'rm -rf "$stage"' EXIT
-prefix=/opt/museum
+prefix=/srv/museum
 root=$stage$prefix
 header=$root/include/batqemulo.h
 archive=$root/lib/libbatqemulo.a

@@ -24,9 +24,10 @@ struct Size {
     objections: usize,
 }
 
+/// More than 200,000 damaged texts in all.
 const SIZES: [Size; 4] = [
-    size("tens of bytes", 12, 6_000, 3, 4),
-    size("a hundred bytes", 12, 6_000, 8, 10),
+    size("tens of bytes", 12, 8_000, 3, 4),
+    size("a hundred bytes", 12, 8_000, 8, 10),
     size("some hundred bytes", 12, 1_000, 25, 40),
     size("thousands of bytes", 10, 30, 300, 900),
 ];

@@ -86,8 +86,10 @@ static void draw_stairs(void) {
                 add(objector, target);
 }
 
-/* No objections, so that none is searched for a repeat: what all the rest takes. */
+/* No objections, so that none is searched for a repeat: what all the rest takes. There is space for
+ * the longest numbers. */
 static void draw_alone(void) {
+    drawn.long_numbers = 1;
 }
 
 const struct shape shapes_of_all[SHAPES_OF_ALL] = {
@@ -105,9 +107,11 @@ const struct shape shapes_of_one[SHAPES_OF_ONE] = {
 /* The statements at each size; there may be four times as many pairs. */
 static const size_t sizes[SIZES] = {128, 256, 512, 1024};
 
-/* Four digits, with which the largest register fits a text, and in no order. 8,999 is a prime, so
- * that no number comes twice. */
+/* Four digits, with which the largest register fits a text, or eight; in no order. 8,999 and
+ * 89,999,999 have no factor in common with 7,919 and 55,555,553, so that no number comes twice. */
 static unsigned number(size_t place) {
+    if (drawn.long_numbers)
+        return 10000000 + (unsigned)((uint64_t)place * 55555553 % 89999999);
     return 1000 + (unsigned)(place * 7919 % 8999);
 }
 

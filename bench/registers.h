@@ -26,6 +26,8 @@ struct drawn {
     uint8_t marks[BATQEMULO_MAX_STATEMENTS];
     uint32_t objectors[BATQEMULO_MAX_OBJECTIONS];
     uint32_t targets[BATQEMULO_MAX_OBJECTIONS];
+    /* whether the numbers of the text have eight digits */
+    int long_numbers;
     uint8_t text[BATQEMULO_MAX_TEXT_BYTES];
     size_t bytes;
     /* whether a pair is there, so that none is there twice */

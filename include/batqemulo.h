@@ -10,8 +10,9 @@
  * - A length beside a pointer counts entries, not bytes. A pointer may be NULL where its length
  *   is 0.
  * - No room may overlap another room or an input. Inputs are only read.
- * - A call on lists takes less than 32 KiB of stack, a call on a text less than 72 KiB. A call for
- *   a line of argument goes as deep as the line is long and takes less than 256 KiB.
+ * - A call on lists takes less than 32 KiB of stack, a call on a text less than 72 KiB, a call for
+ *   a reason less than 80 KiB. A call for a line of argument goes as deep as the line is long and
+ *   takes less than 256 KiB.
  * - No call allocates, keeps anything from one call to the next or calls back, so calls may run in
  *   several threads at once.
  */
@@ -30,7 +31,7 @@ extern "C" {
 #define BATQEMULO_MAX_OBJECTIONS 4096
 #define BATQEMULO_MAX_TEXT_BYTES 65535
 
-/* A room of so many bytes has space for every listing. */
+/* A room of so many bytes has space for every listing, and for every reason. */
 #define BATQEMULO_MAX_LISTING_BYTES 131072
 
 /* A room of so many entries has space for every line of argument. */
@@ -156,6 +157,23 @@ batqemulo_answer batqemulo_text_lengths(const uint8_t *text, size_t text_len, ui
  * Refusals: 1, 2, then 3 to 9 line by line, then 14, 10. */
 batqemulo_answer batqemulo_text_line(const uint8_t *text, size_t text_len, uint32_t number,
                                      uint32_t *line, size_t line_len);
+
+/* Writes the reason for the statement with this number, as rows of the listing: the statement's
+ * own, then those of the objections in its reason, in the order of the objection lines. These are
+ * all that are reached from the statement, going from target to objector, along objections that are
+ * felling, delaying or standoffs. An idle one is in no reason, and nothing is reached by it.
+ *
+ *   number  label  length                of the asked statement
+ *   objector  target  kind  length       of each objection in its reason
+ *
+ * A register of only these objections, and of the statements in them and the asked one, with their
+ * marks, gives the asked statement the same label and length. No reason has more than
+ * BATQEMULO_MAX_LISTING_BYTES, and nothing is written behind its last byte 10.
+ *
+ * Numbers from 1 to 99999999 stand for themselves; 0 and all others are on no statement line.
+ * Refusals: 1, 2, then 3 to 9 line by line, then 14, 10. */
+batqemulo_answer batqemulo_reason(const uint8_t *text, size_t text_len, uint32_t number,
+                                  uint8_t *room, size_t room_len);
 
 /* The class exercise: does the statement with this number stand within so many turns, does it fall
  * within so many. There is no room; the answer's value is BATQEMULO_STANDS or BATQEMULO_FALLS if

@@ -32,6 +32,8 @@ struct example {
     size_t entries;
     uint32_t places[MOST];
     uint32_t numbers[MOST];
+    /* the reason for it */
+    const char *reason;
 };
 
 /* The game a, b, c, d, which are the places 0 to 3 and the numbers 101 to 104. */
@@ -55,6 +57,7 @@ static const struct example game = {
     2,
     {2, 3},
     {103, 104},
+    "103\tfalls\t1\n104\t103\tfelling\t1\n",
 };
 
 /* 4 against 3, 3 against 2, 2 against 1, and 1 is unread; they are the places 0 to 3 in this order.
@@ -78,6 +81,7 @@ static const struct example chain = {
     4,
     {3, 2, 1, 0},
     {1, 2, 3, 4},
+    "1\tfalls\t3\n4\t3\tfelling\t1\n3\t2\tdelaying\t2\n2\t1\tfelling\t3\n",
 };
 
 static unsigned passed, failed;
@@ -106,6 +110,12 @@ static int accepted(batqemulo_answer answer, size_t entries) {
 
 static int refused(batqemulo_answer answer, uint32_t number, uint32_t place) {
     return answer.refusal == number && answer.value == place;
+}
+
+static int all_are(const uint8_t *bytes, size_t count, uint8_t value) {
+    while (count > 0 && bytes[count - 1] == value)
+        count--;
+    return count == 0;
 }
 
 static void ask_labels(const struct example *e) {
@@ -202,6 +212,29 @@ static void ask_line(const struct example *e) {
     free(line);
 }
 
+/* The reason in a room that is just as long, then in one byte less, then in the room that has space
+ * for every reason, of which the rest stays as it was. */
+static void ask_reason(const struct example *e) {
+    const uint8_t *text = (const uint8_t *)e->text;
+    size_t bytes = strlen(e->text), printed = strlen(e->reason);
+    uint8_t *reason = room(printed);
+    batqemulo_answer answer = batqemulo_reason(text, bytes, e->number, reason, printed);
+    check(e, "the reason", accepted(answer, printed) && memcmp(reason, e->reason, printed) == 0);
+    memset(reason, 7, printed);
+    answer = batqemulo_reason(text, bytes, e->number, reason, printed - 1);
+    check(e, "a short room for the reason",
+          refused(answer, BATQEMULO_ROOM_TOO_SHORT, 0) && all_are(reason, printed, 7));
+    free(reason);
+    reason = room(BATQEMULO_MAX_LISTING_BYTES);
+    memset(reason, 7, BATQEMULO_MAX_LISTING_BYTES);
+    answer = batqemulo_reason(text, bytes, e->number, reason, BATQEMULO_MAX_LISTING_BYTES);
+    check(e, "the reason in a large room",
+          accepted(answer, printed) && memcmp(reason, e->reason, printed) == 0);
+    check(e, "the rest of the large room",
+          all_are(reason + printed, BATQEMULO_MAX_LISTING_BYTES - printed, 7));
+    free(reason);
+}
+
 /* What is open gives itself alone, whatever the room. */
 static void ask_open_lines(const struct example *e) {
     uint32_t line[BATQEMULO_MAX_LINE_ENTRIES];
@@ -286,6 +319,22 @@ static void have_asked_refused(const struct example *e) {
     check(e, "the room after refused lines", memcmp(line, as_found, sizeof line) == 0);
 }
 
+/* The text is refused before the number, and the number before the room. */
+static void have_reason_refused(const struct example *e) {
+    const uint8_t *text = (const uint8_t *)e->text;
+    size_t bytes = strlen(e->text);
+    batqemulo_answer answer = batqemulo_reason(text, bytes - 1, 0, NULL, 0);
+    check(e, "reason of a text that is not ended", refused(answer, BATQEMULO_TEXT_NOT_ENDED, 0));
+    answer = batqemulo_reason(text + 1, bytes - 1, 0, NULL, 0);
+    check(e, "reason of a spoiled text", refused(answer, BATQEMULO_LINE_SPOILED, 1));
+    answer = batqemulo_reason(text, bytes, 0, NULL, 0);
+    check(e, "reason for number 0", refused(answer, BATQEMULO_ASKED_UNKNOWN, 0));
+    answer = batqemulo_reason(text, bytes, UINT32_MAX, NULL, 0);
+    check(e, "reason for the greatest number", refused(answer, BATQEMULO_ASKED_UNKNOWN, 0));
+    answer = batqemulo_reason(text, bytes, e->number, NULL, 0);
+    check(e, "no room for a reason", refused(answer, BATQEMULO_ROOM_TOO_SHORT, 0));
+}
+
 /* Where every length is 0, every pointer may be NULL. */
 static void ask_of_nothing(void) {
     static const struct example nothing = {.name = "the empty register"};
@@ -301,6 +350,8 @@ static void ask_of_nothing(void) {
     check(&nothing, "no line of argument",
           refused(batqemulo_pairs_line(NULL, 0, NULL, 0, NULL, 0, 0, NULL, 0),
                   BATQEMULO_ASKED_UNKNOWN, 0));
+    check(&nothing, "no reason",
+          refused(batqemulo_reason(NULL, 0, 1, NULL, 0), BATQEMULO_ASKED_UNKNOWN, 0));
     check(&nothing, "no exercise",
           refused(batqemulo_text_exercise(NULL, 0, 1, 0), BATQEMULO_ASKED_UNKNOWN, 0));
 }
@@ -314,11 +365,13 @@ int main(void) {
         ask_text(examples[i]);
         ask_listing(examples[i]);
         ask_line(examples[i]);
+        ask_reason(examples[i]);
         ask_open_lines(examples[i]);
         ask_exercise(examples[i]);
         be_refused(examples[i]);
         have_text_refused(examples[i]);
         have_asked_refused(examples[i]);
+        have_reason_refused(examples[i]);
     }
     ask_of_nothing();
     printf("%u passed, %u failed\n", passed, failed);

@@ -31,8 +31,8 @@ exported() {
 right_files() {
     {
         printf '644 %s\n' include/batqemulo.h lib/libbatqemulo.a lib/pkgconfig/batqemulo.pc \
-            share/man/man1/batqemulo-list.1 share/man/man3/batqemulo.3
-        printf '755 %s\n' bin/batqemulo-list
+            share/man/man1/batqemulo-{list,reason}.1 share/man/man3/batqemulo.3
+        printf '755 %s\n' bin/batqemulo-{list,reason}
         exported | sed 's|.*|644 share/man/man3/&.3|'
     } | sort
 }
@@ -77,6 +77,11 @@ runs() {
 
 lists() {
     "${start_list[@]}" "$root/bin/batqemulo-list" <examples/game.txt | cmp - examples/game.listing
+}
+
+reasons() {
+    "${start_list[@]}" "$root/bin/batqemulo-reason" 103 <examples/game.txt |
+        cmp - <(grep -e $'^103\tfalls' -e $'\t103\t' examples/game.listing)
 }
 
 # formats PAGE: groff has nothing to warn of
@@ -168,12 +173,13 @@ try 'pkg-config knows the places' places
 try 'the man page has a C program' c_example
 try 'a C program is built by pkg-config' linked && try 'it runs' runs
 try 'the installed program lists' lists
+try 'the installed program gives reasons' reasons
 
 try 'every call is named in the header' named "$header"
 try 'every call is named in the man page' named "$page"
 try 'every call has a man page' leads
 if command -v groff >/dev/null; then
-    for man in "$page" "$root/share/man/man1/batqemulo-list.1"; do
+    for man in "$page" "$root"/share/man/man1/batqemulo-{list,reason}.1; do
         try "no warning of ${man##*/}" formats "$man"
     done
     try 'the man page has the calls as the header has them' same_calls

@@ -1,4 +1,4 @@
-# Sourced by tests/run, tests/program.sh and bench/run: how programs are built and started on this
+# Sourced by tests/run, what it starts, and bench/run: how programs are built and started on this
 # machine. The kit writes code for x86-64. There, gcc links the library into a C program, and that
 # runs by itself. Elsewhere the kit's own compiler, C library and emulator serve, as they do for
 # `rt check`, and the headers are those that gcc finds.

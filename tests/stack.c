@@ -79,6 +79,10 @@ static void listing(void) {
     answer = batqemulo_listing(TEXT, bytes, sizeof bytes);
 }
 
+static void reason(void) {
+    answer = batqemulo_reason(TEXT, 1, bytes, sizeof bytes);
+}
+
 /* Stacks grow downwards: what was used reaches from its end down to the last byte without paint. */
 static size_t used(void (*call)(void)) {
     size_t clean = 0;
@@ -99,12 +103,17 @@ int main(void) {
         const char *name;
         void (*call)(void);
         size_t kib;
-    } calls[] = {
-        {"labels of lists", pairs_labels, 32},     {"lengths of lists", pairs_lengths, 32},
-        {"kinds of lists", pairs_kinds, 32},       {"exercise on lists", pairs_exercise, 32},
-        {"labels of a text", text_labels, 72},     {"lengths of a text", text_lengths, 72},
-        {"exercise on a text", text_exercise, 72}, {"listing", listing, 72},
-        {"line in lists", pairs_line, 256},        {"line in a text", text_line, 256}};
+    } calls[] = {{"labels of lists", pairs_labels, 32},
+                 {"lengths of lists", pairs_lengths, 32},
+                 {"kinds of lists", pairs_kinds, 32},
+                 {"exercise on lists", pairs_exercise, 32},
+                 {"labels of a text", text_labels, 72},
+                 {"lengths of a text", text_lengths, 72},
+                 {"exercise on a text", text_exercise, 72},
+                 {"listing", listing, 72},
+                 {"reason", reason, 80},
+                 {"line in lists", pairs_line, 256},
+                 {"line in a text", text_line, 256}};
     unsigned passed = 0, failed = 0;
     make_chain();
     for (size_t k = 0; k < sizeof calls / sizeof *calls; k++) {

@@ -1,5 +1,5 @@
-# Sourced by tests/run and tests/program.sh: tests are tried one by one and counted. Both scripts
-# end with finish, and its line is the last that they print.
+# Sourced by tests/run and the scripts that it starts: tests are tried one by one and counted. Each
+# script ends with finish, and its line is the last that it prints.
 # shellcheck shell=bash
 
 # built: where everything that a run makes is put, and what the last test said

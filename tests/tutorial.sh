@@ -5,7 +5,7 @@
 #   a block ```c        is a C program; its first line names it: /* NAME.c .. */. It is built, and a
 #                       command can start it as ./NAME
 #
-# tests/run starts it, after it has built the library and the program. The very last line is
+# tests/run starts it, after it has built the library and the programs. The very last line is
 # 'N passed, M failed'.
 set -u
 cd "$(dirname "$0")/.." || exit 1
@@ -44,9 +44,10 @@ starter() {
     chmod +x "$1"
 }
 
-# furnish FOLDER: what a reader has before them: the program and the examples
+# furnish FOLDER: what a reader has before them: the programs and the examples
 furnish() {
     starter "$1/list" "$PWD/list"
+    starter "$1/reason" "$PWD/reason"
     ln -s "$PWD/examples" "$1/examples"
 }
 
@@ -90,7 +91,7 @@ notices() {
     part "$work/changed.md" "$folder"
     furnish "$folder"
     for file in "$folder"/*.command; do
-        grep -q '^\./list' "$file" || continue
+        grep -q -e '^\./list' -e '^\./reason' "$file" || continue
         prints "$file" || return 0
     done
     return 1
@@ -103,6 +104,8 @@ try 'another label would be noticed' notices 's/^2003\tstands/2003\topen/'
 try 'another length would be noticed' notices 's/^2002\tfalls\t3/2002\tfalls\t1/'
 try 'another kind would be noticed' notices 's/^3005\t3001\tidle/3005\t3001\tdelaying/'
 try 'a line left out would be noticed' notices '/^2005\tfalls/d'
+try 'an idle objection in a reason would be noticed' \
+    notices '/^\$ .\/reason 3001/,/^```/s/^4001/3005\t3001\tidle\t-\n&/'
 try 'a space for a tab would be noticed' notices 's/^REFUSED\t/REFUSED /'
 
 finish

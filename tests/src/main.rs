@@ -1,7 +1,8 @@
 //! The outside tests of the library. Its calls are made through the C functions and held against a
 //! second solver that shares nothing with it. The words after this program's name are the command
-//! that starts the caller (caller.c); tests/run gives them. Two more uses are for tests/program.sh:
-//! `print` prints what the listing program ought to print, `examples FOLDER` writes 01's examples.
+//! that starts the caller (caller.c); tests/run gives them. Some more uses are for the tests of the
+//! programs: `print` prints what the listing program ought to print, `print WORD` what the reason
+//! program ought to print with this word for its number, `examples FOLDER` writes 01's examples.
 //! One is for fuzz/run: `corpus TEXTS LISTS CALLER WORDS..` tries what lies in two folders.
 
 #![deny(warnings)]
@@ -16,21 +17,24 @@ mod suites;
 
 use inputs::examples::EXAMPLES;
 use inputs::text::Text;
-use second::expected::Expected;
-use second::listing;
+use second::expected::{Expected, Question};
+use second::{listing, text};
 use std::io::{Error, Read, Write};
 use std::path::Path;
 use std::process::ExitCode;
 use suites::Test;
 
-const USAGE: &str = "usage: outside CALLER WORDS.., print, examples FOLDER, \
+const USAGE: &str = "usage: outside CALLER WORDS.., print, print WORD, examples FOLDER, \
                      or corpus TEXTS LISTS CALLER WORDS..";
 
 fn main() -> ExitCode {
     let words: Vec<String> = std::env::args().skip(1).collect();
     let ended = match words.as_slice() {
         [] => Err(USAGE.to_string()),
-        [word] if word == "print" => print().map_err(|error| error.to_string()),
+        [word] if word == "print" => print(Question::Listing).map_err(|error| error.to_string()),
+        [word, number] if word == "print" => {
+            print(reason_for(number)).map_err(|error| error.to_string())
+        }
         [word, folder] if word == "examples" => {
             write_examples(Path::new(folder)).map_err(|error| error.to_string())
         }
@@ -45,12 +49,18 @@ fn main() -> ExitCode {
     })
 }
 
-/// Prints what the second solver makes of the text on standard input.
-fn print() -> Result<ExitCode, Error> {
+/// The question for a reason. A word that is no number asks for 0, which is on no register either.
+fn reason_for(word: &str) -> Question {
+    let statement = text::number(word.as_bytes()).unwrap_or(0);
+    Question::Reason { statement }
+}
+
+/// Prints what the second solver answers to this question of the text on standard input.
+fn print(question: Question) -> Result<ExitCode, Error> {
     let mut text = Text::default();
     std::io::stdin().read_to_end(&mut text.0)?;
     let expected = Expected::of_text(&text);
-    std::io::stdout().write_all(&listing::print(&expected))?;
+    std::io::stdout().write_all(&listing::print(&expected, question))?;
     Ok(ExitCode::SUCCESS)
 }
 

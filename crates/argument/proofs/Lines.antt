@@ -13,7 +13,8 @@ use Rattle.game.proofs.Line.{turns, last, next, line, line-unique}
 use Rattle.game.proofs.Lists.{objects-entry}
 use Rattle.game.proofs.Verdict.{verdict, means-verdict, means-unique}
 use Rattle.game.proofs.Agree.{verdict-agrees}
-use Rattle.argument.specs.Argument.{Lined, Settled, Turns, Onward}
+use Rattle.label.specs.Labelled.{Settled}
+use Rattle.argument.specs.Argument.{Lined, Turns, Onward}
 
 -- the label number of a verdict, and the number of turns, tell the verdict
 turns-told : (labels lengths : List ℕ) (x n : ℕ) (v : Verdict) → getD labels x 0 ≡ labelNumber v

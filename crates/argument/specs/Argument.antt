@@ -3,11 +3,8 @@ use mathlib.Core.List.{List, _++_}
 use mathlib.Core.Path.{_≡_}
 use Prim.Native.Nat.{ℕ, _≤_, _<_}
 use lib.ListN.{length, getD, drop}
-use Rattle.game.specs.Book.{Book, bookOf}
+use Rattle.game.specs.Book.{Book}
 use Rattle.game.specs.Line.{Line}
-use Rattle.chain.specs.Chained.{Chained}
-use Rattle.chain.specs.Handed.{Handed}
-use Rattle.label.specs.Labelled.{Labelled}
 
 -- The line of x has n entries. They are in the room, with what was there beyond them; or, where there is too little room, the
 -- room is as found.
@@ -18,20 +15,7 @@ pub record Lined (B : Book) (x : ℕ) (room : List ℕ) (n : ℕ) (after : List 
   pub fits : length line ≤ length room → after ≡ line ++ drop (length line) room
   pub short : length room < length line → after ≡ room
 
--- what is asked of a register for that: it is in order, and labelled
-pub record Settled (marks objectors targets labels lengths : List ℕ) : Type 0 where
-  pub handed : Handed marks objectors targets
-  pub labelled : Labelled (bookOf marks objectors targets) labels lengths
-  pub labels-room : length marks ≤ length labels
-  pub lengths-room : length marks ≤ length lengths
-
--- The rest is not for callers. The objections are chained by target.
-pub record Chains (marks targets head next : List ℕ) : Type 0 where
-  pub chained : Chained targets (length targets) head next
-  pub head-room : length marks ≤ length head
-  pub next-room : length targets ≤ length next
-
--- n is the length of x, or 0 where x is open
+-- Not for callers: n is the length of x, or 0 where x is open
 abbrev pub Turns : (labels lengths : List ℕ) → ℕ → ℕ → Type 0
 Turns labels lengths x n = (getD labels x 0 ≡ 0 → n ≡ 0) × ((getD labels x 0 ≡ 0 → ⊥) → n ≡ getD lengths x 0)
 

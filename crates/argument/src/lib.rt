@@ -11,7 +11,9 @@ ghost use lib.ListN.{length, drop};
 ghost use Rattle.game.specs.Book.{bookOf};
 ghost use Rattle.game.specs.Label.{Least};
 ghost use Rattle.game.specs.Line.{Line};
-ghost use Rattle.argument.specs.Argument.{Lined, Settled, Chains, Turns, Onward};
+ghost use Rattle.chain.specs.Chained.{Chains};
+ghost use Rattle.label.specs.Labelled.{Settled};
+ghost use Rattle.argument.specs.Argument.{Lined, Turns, Onward};
 
 // The length of x, or 0 for an open one: how many statements come after x in its line.
 fn turns(labels: &[u8], lengths: &[u16], x: usize) -> u16

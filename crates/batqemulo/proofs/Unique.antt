@@ -7,6 +7,8 @@ use Rattle.on_lists.specs.Lists.{PairsLabels, PairsLengths, PairsKinds, MovesLa
 use Rattle.on_lists.proofs.Unique.{unique-pairs-labels, unique-pairs-lengths, unique-pairs-kinds, unique-moves-labels, unique-moves-lengths, unique-pairs-line, unique-pairs-exercise}
 use Rattle.on_text.specs.Texts.{TextLabels, TextLengths, TextListing, TextLine, TextExercise}
 use Rattle.on_text.proofs.Unique.{unique-text-labels, unique-text-lengths, unique-text-listing, unique-text-line, unique-text-exercise}
+use Rattle.reasons.specs.Reasons.{TextReason}
+use Rattle.reasons.proofs.Unique.{unique-text-reason}
 use Rattle.batqemulo.specs.InC.{inC, InC}
 use Rattle.batqemulo.specs.declared.CAnswer.{CAnswer}
 
@@ -66,6 +68,11 @@ unique-batqemulo-pairs-line marks objectors targets place room =
 pub unique-batqemulo-text-line : (s : List ℕ) (number : ℕ) (room : List ℕ) (c c′ : CAnswer) (after after′ : List ℕ)
     → InC (λ a. TextLine s number room a after) c → InC (λ a. TextLine s number room a after′) c′ → (c ≡ c′) × (after ≡ after′)
 unique-batqemulo-text-line s number room = in-c-unique (TextLine s number room) (unique-text-line s number room)
+
+pub unique-batqemulo-reason : (s : List ℕ) (number : ℕ) (room : List ℕ) (c c′ : CAnswer) (after after′ : List ℕ)
+    → InC (λ a. TextReason s number room a after) c → InC (λ a. TextReason s number room a after′) c′ → (c ≡ c′) ×
+    (after ≡ after′)
+unique-batqemulo-reason s number room = in-c-unique (TextReason s number room) (unique-text-reason s number room)
 
 -- the calls that lend no room
 one-answer : (P : Answer → Type 0) → ((a a′ : Answer) → P a → P a′ → a ≡ a′) → (c c′ : CAnswer) → InC P c → InC P c′ → c ≡ c′

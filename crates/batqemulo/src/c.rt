@@ -5,6 +5,7 @@ ghost use mathlib.Core.Path.{_≡_};
 ghost use Rattle.batqemulo.specs.InC.{inC, InC};
 ghost use Rattle.on_lists.specs.Lists.{PairsLabels, PairsLengths, PairsKinds, MovesLabels, MovesLengths, PairsLine, PairsExercise};
 ghost use Rattle.on_text.specs.Texts.{TextLabels, TextLengths, TextListing, TextLine, TextExercise};
+ghost use Rattle.reasons.specs.Reasons.{TextReason};
 
 fn in_c(answer: Answer) -> CAnswer
     ensures { λ c. ⌜ c ≡ inC answer ⌝ }
@@ -156,4 +157,12 @@ pub extern "C" fn batqemulo_text_exercise(text: &[u8], number: u32, turns: u32) 
     ensures { λ c. ⌜ InC (TextExercise (now (text .entry)) number turns) c ⌝ }
 {
     in_c(on_text::text_exercise(text, number, turns))
+}
+
+// The reason of a statement of a text.
+#[no_mangle]
+pub extern "C" fn batqemulo_reason(text: &[u8], number: u32, room: &mut [u8]) -> CAnswer
+    ensures { λ c. ⌜ InC (λ a. TextReason (now (text .entry)) number (now (room .entry)) a (now (room .exit))) c ⌝ }
+{
+    in_c(reasons::text_reason(text, number, room))
 }

@@ -1,5 +1,5 @@
 // The product: what other Rattle programs call is named here, and what C calls is in `c`. None of it asks anything of its
-// caller. The calls themselves are in `on_lists` and `on_text`.
+// caller. The calls themselves are in `on_lists`, `on_text` and `reasons`.
 pub mod c;
 
 pub use answer::Answer;
@@ -15,6 +15,7 @@ pub use on_text::text_labels;
 pub use on_text::text_lengths;
 pub use on_text::text_line;
 pub use on_text::text_listing;
+pub use reasons::text_reason;
 
 // The answer as C gets it: `refusal` is 0 where the call is accepted, else 01's number with its place as `value`.
 #[repr(C)]

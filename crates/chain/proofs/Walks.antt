@@ -42,3 +42,8 @@ module _ (places head next : List ℕ) (ch : Chained places (length places) head
   -- at its end, all are seen
   pub walk-ends : (c : ℕ) → Walk places x P c → c ≡ 0 → (e : ℕ) → e < length places → getD places e 0 ≡ x → P e
   walk-ends c w z e h o = w .seen e h o (omega arith)
+
+-- what is seen stays seen
+pub walk-map : (places : List ℕ) (x : ℕ) (P Q : ℕ → Type 0) → ((e : ℕ) → P e → Q e) → (c : ℕ) → Walk places x P c
+    → Walk places x Q c
+walk-map places x P Q f c w = record { low = w .low; of = w .of; seen = λ e h o l. f e (w .seen e h o l) }

@@ -20,3 +20,9 @@ pub record Walk (places : List ℕ) (x : ℕ) (P : ℕ → Type 0) (c : ℕ) : T
   pub low : c ≤ length places
   pub of : (e : ℕ) → e + 1 ≡ c → getD places e 0 ≡ x
   pub seen : (e : ℕ) → e < length places → getD places e 0 ≡ x → c ≤ e → P e
+
+-- the objections are chained by target, in rooms that are long enough
+pub record Chains (marks targets head next : List ℕ) : Type 0 where
+  pub chained : Chained targets (length targets) head next
+  pub head-room : length marks ≤ length head
+  pub next-room : length targets ≤ length next

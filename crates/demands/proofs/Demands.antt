@@ -21,7 +21,7 @@ use Rattle.text.proofs.Settled as settled
 use Rattle.listing.specs.Listing.{IsListing}
 use Rattle.listing.proofs.Listing.{listing-once}
 use Rattle.refusal.specs.declared.Refusal.{Refusal}
-use Rattle.answer.specs.Answer.{Promised, Short, Asks}
+use Rattle.answer.specs.Answer.{Promised, Written, Short, Asks}
 use Rattle.answer.proofs.Promises.{asks-none}
 use Rattle.answer.specs.declared.Answer.{Answer}
 use Rattle.answer.specs.declared.Answer.the-variants.{Refused, Given}
@@ -30,8 +30,11 @@ use Rattle.on_lists.specs.Lists as lists
 use Rattle.on_lists.proofs.Unique.{unique-pairs-labels, unique-pairs-lengths, unique-pairs-kinds, unique-pairs-line, unique-pairs-exercise}
 use Rattle.solved.specs.Solved.{TextRefuses, Places}
 use Rattle.solved.proofs.Laws.{text-apart, place-once}
-use Rattle.on_text.specs.Texts.{ListingShort, byNumber, LineIn, LineShort, LineRefused, ExerciseIn, TextLabels, TextLengths, TextListing, TextLine, TextExercise}
-use Rattle.on_text.proofs.Unique.{unique-text-labels, unique-text-lengths, unique-text-listing, unique-text-line, unique-text-exercise}
+use Rattle.solved.proofs.Lists.{list-unique}
+use Rattle.on_text.specs.Texts.{ListingShort, byNumber, ExerciseIn, TextLabels, TextLengths, TextListing, TextLine, TextExercise}
+use Rattle.on_text.proofs.Unique.{unique-text-labels, unique-text-lengths, unique-text-listing, unique-text-exercise}
+use Rattle.reasons.specs.Reasons.{IsReason, TextReason}
+use Rattle.reasons.proofs.Reasons.{reason-once}
 use Rattle.batqemulo.specs.Demands.{Settled, Answers, LabelSays, LengthSays, KindSays}
 use Rattle.demands.proofs.Says.{label-says, length-says, kind-says}
 use Rattle.text.specs.Reads.{Accepts}
@@ -160,33 +163,55 @@ module _ (s : List ℕ) where
       (λ h. omega (arith, h .0 .2, f .2 (h .0 .0) (h .0 .1))))
       (λ n after (R, a, (l, is, w)). (R, a, λ k i. omega (arith, w .1, ap length (listing-once R k l i is))))
 
+  -- what is asked about the statement of a number, where the answer is a list that is settled by the statement: `Is R x l`
+  module _ (number : ℕ) (Is : Register → ℕ → List ℕ → Type 0)
+      (once : (R : Register) (x : ℕ) (l l′ : List ℕ) → Is R x l → Is R x l′ → l ≡ l′) (told : Register → List ℕ → List ℕ)
+      (as-long : (R : Register) (l : List ℕ) → length (told R l) ≡ length l) (room : List ℕ) where
+    abbrev short : Register → Type 0
+    short R = (x : ℕ) × Places R number x × ((l : List ℕ) × Is R x l × (length room < length l))
+
+    abbrev Gives : ℕ → List ℕ → Type 0
+    Gives n after =
+        (R : Register) × Accepts s R × ((x : ℕ) × Places R number x × ((l : List ℕ) × Is R x l × Written (told R l) room n after))
+
+    abbrev Fine : Type 0
+    Fine =
+        (R : Register) × Accepts s R × Issued R number × ((x : ℕ) → Places R number x → (l : List ℕ) → Is R x l
+        → length l ≤ length room)
+
+    list-answers : Answers Fine (reads.Refuses s)
+        (Promised (TextRefuses s (λ R. Asks (Issued R number) 0 (short R))) Gives room) room
+    list-answers =
+        answers _ _ (reads.Refuses s) Fine room
+        (λ a a′ after after′ p q. list-unique s number Is once told as-long room a a′ after after′ p q .0) (λ r. inl)
+        (λ r p f. text-apart s (λ R. Asks (Issued R number) 0 (short R)) r (f .0) p (f .1)
+        (λ h. asks-none (Issued (f .0) number) 0 (short (f .0)) r h (f .2) (omega arith)
+        (λ (x, q, (l, is, t)). omega (arith, t, f .3 x q l is)))) well
+      where
+        well : (n : ℕ) (after : List ℕ) → Gives n after → Fine
+        well n after (R, a, (x, q, (l, is, (c, f, e)))) = (
+          R,
+          a,
+          (x, q .0, q .1),
+          λ x′ q′ l′ is′. omega (
+            arith,
+            f,
+            as-long R l,
+            ap length (once R x l′ l (subst (λ i. Is R i l′) (place-once R (a .valid) number x′ x q′ q) is′) is),
+          ),
+        )
+
   pub text-line-answers : (number : ℕ) (room : List ℕ) → Answers
       ((R : Register) × Accepts s R × Issued R number × ((x : ℕ) → Places R number x → (l : List ℕ) → Line (book R) x l
       → length l ≤ length room)) (reads.Refuses s) (TextLine s number room) room
   text-line-answers number room =
-      answers _ _ (reads.Refuses s) Fine room (λ a a′ after after′ p q. unique-text-line s number room a a′ after after′ p q .0)
-      (λ r. inl) (λ r p f. text-apart s (λ R. LineRefused R number room) r (f .0) p (f .1)
-      (λ h. asks-none (Issued (f .0) number) 0 (LineShort (f .0) number room) r h (f .2) (omega arith)
-      (λ (x, q, (l, is, t)). omega (arith, t, f .3 x q l is)))) well
-    where
-      Fine : Type 0
-      Fine =
-          (R : Register) × Accepts s R × Issued R number × ((x : ℕ) → Places R number x → (l : List ℕ) → Line (book R) x l
-          → length l ≤ length room)
+      list-answers number (λ R x l. Line (book R) x l) (λ R x l l′. line-unique (book R)) byNumber
+      (λ R l. length-map l (λ i. getD (numbers R) i 0)) room
 
-      well : (n : ℕ) (after : List ℕ) → (R : Register) × Accepts s R × LineIn R number room n after → Fine
-      well n after (R, a, (x, q, (l, is, (c, f, e)))) = (
-        R,
-        a,
-        (x, q .0, q .1),
-        λ x′ q′ l′ is′. omega (
-          arith,
-          f,
-          length-map l (λ i. getD (numbers R) i 0),
-          ap length (line-unique (book R) (subst (λ i. Line (book R) i l′) (place-once R (a .valid) number x′ x q′ q) is′)
-              is),
-        ),
-      )
+  pub text-reason-answers : (number : ℕ) (room : List ℕ) → Answers
+      ((R : Register) × Accepts s R × Issued R number × ((x : ℕ) → Places R number x → (l : List ℕ) → IsReason R x l
+      → length l ≤ length room)) (reads.Refuses s) (TextReason s number room) room
+  text-reason-answers number room = list-answers number IsReason reason-once (λ R l. l) (λ R l. refl) room
 
   pub text-exercise-answers : (number turns : ℕ) → Answers {Rooms = Unit {0}}
       ((R : Register) × Accepts s R × Issued R number × (turns ≤ 6)) (reads.Refuses s) (λ a after. TextExercise s number turns a)
@@ -286,6 +311,19 @@ module _ (s : List ℕ) where
         ),
     λ k h. kind-says (book R) (getD (objectorsOf R) k 0) (getD (targetsOf R) k 0) (getD (i .kinds) k Idle) (i .of-kind k h),
   )
+
+  -- and so are those of a reason's rows
+  pub reason-says : (R : Register) (x : ℕ) (l : List ℕ) → Accepts s R → x < length (R .statements) → (i : IsReason R x l)
+      → LabelSays (book R) x (labelNumber (i .verdict)) × LengthSays (book R) x (lengthNumber (i .verdict))
+      × ((k : ℕ) → k < length (R .objections) → KindSays (book R) (getD (objectorsOf R) k 0) (getD (targetsOf R) k 0)
+      (kindNumber (getD (i .kinds) k Idle)) (kindLength (getD (i .kinds) k Idle)))
+  unfolding bookOf
+  reason-says R x l a h i =
+      let g : Listed (book R) x = omega (arith, marks-counted R (a .valid)) in (
+        label-says (book R) x g (i .verdict) (i .means),
+        length-says (book R) x g (i .verdict) (i .means),
+        λ k h. kind-says (book R) (getD (objectorsOf R) k 0) (getD (targetsOf R) k 0) (getD (i .kinds) k Idle) (i .of-kind k h),
+      )
 
   -- "The program issues no numbers": those that a line has, and those of a listing's objections, are statement lines' numbers
   pub line-issues-none : (number : ℕ) (room : List ℕ) (n : ℕ) (after : List ℕ) → TextLine s number room (Given n) after

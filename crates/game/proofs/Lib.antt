@@ -9,6 +9,7 @@ pub mod Agree
 pub mod Transfer
 pub mod Objection
 pub mod Line
+pub mod Reason
 pub mod Finish
 pub mod Lists
 pub mod Demands

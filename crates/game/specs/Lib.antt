@@ -5,5 +5,6 @@ pub mod Rules
 pub mod Agree
 pub mod Objection
 pub mod Line
+pub mod Reason
 pub mod Finish
 pub mod Find

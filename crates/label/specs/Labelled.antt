@@ -5,6 +5,7 @@ use Prim.Native.Nat.{ℕ, _≤_}
 use lib.ListN.{length, getD}
 use Rattle.game.specs.Book.{Book, Listed, bookOf}
 use Rattle.game.specs.Label.{Told}
+use Rattle.chain.specs.Handed.{Handed}
 
 -- each listed statement has its own label and length
 pub record Labelled (B : Book) (labels lengths : List ℕ) : Type 0 where
@@ -15,3 +16,10 @@ pub record Solved (marks objectors targets labels lengths labels′ lengths′ :
   pub labelled : Labelled (bookOf marks objectors targets) labels′ lengths′
   pub labels-rest : (k : ℕ) → length marks ≤ k → getD labels′ k 0 ≡ getD labels k 0
   pub lengths-rest : (k : ℕ) → length marks ≤ k → getD lengths′ k 0 ≡ getD lengths k 0
+
+-- A register that is in order and labelled: what is asked of it by whatever goes by its labels.
+pub record Settled (marks objectors targets labels lengths : List ℕ) : Type 0 where
+  pub handed : Handed marks objectors targets
+  pub labelled : Labelled (bookOf marks objectors targets) labels lengths
+  pub labels-room : length marks ≤ length labels
+  pub lengths-room : length marks ≤ length lengths

@@ -134,8 +134,39 @@ bytes-length [] ms = omega arith
 bytes-length (l ∷ ls) ms =
     omega (arith, length-append (lineBytes l) (bytes (ls ++ ms)), length-append (lineBytes l) (bytes ls), bytes-length ls ms)
 
+-- In a register that is accepted the fields of lengths are short.
+module _ (s : List ℕ) (R : Register) (a : Accepts s R) where
+  within : (x : ℕ) → Listed (book R) x → (v : Verdict) → Means (book R) x v → Within 1023 v
+  unfolding bookOf
+  within x h v p = go v (length-bound (book R) x h v p)
+    where
+      go : (v : Verdict) → Within (length (marksOf R) - 1) v → Within 1023 v
+      go is-open w = tt
+      go (stands k) w = omega (arith, marks-counted R (a .valid), a .valid .few-statements)
+      go (falls k) w = omega (arith, marks-counted R (a .valid), a .valid .few-statements)
+
+  verdicts-short : (x : ℕ) (v : Verdict) → x < length (R .statements) → Means (book R) x v → length (lengthField v) ≤ 4
+  unfolding bookOf
+  verdicts-short x v h m = verdict-short v (within x (omega (arith, marks-counted R (a .valid))) v m)
+
+  kinds-short : (y x : ℕ) (κ : Kind) → OfKind (book R) y x κ → length (kindField κ) ≤ 4
+  unfolding shown
+  kinds-short y x κ o =
+      subst (λ u. length (shown u) ≤ 4) (o .is) (kind-short (o .target) (o .objector)
+      (within y (o .objects .0) (o .objector) (o .objector-means)))
+
+  -- the rows of the objections are not much longer than their lines
+  pub rows-bounded : (κs : List Kind) → ((k : ℕ) → k < length (R .objections)
+      → OfKind (book R) (getD (objectorsOf R) k 0) (getD (targetsOf R) k 0) (getD κs k Idle))
+      → length (objectionRows (R .objections) κs) ≤ length (bytes (map Objection (R .objections))) + 12 * length (R .objections)
+  rows-bounded κs each =
+      objections-short (R .objections) κs
+      (λ k h. kinds-short (getD (objectorsOf R) k 0) (getD (targetsOf R) k 0) (getD κs k Idle) (each k h))
+
+  pub text-length : length s ≡ length (bytes (map Statement (R .statements))) + length (bytes (map Objection (R .objections)))
+  text-length = ap length (a .is-written) ∙ bytes-length (map Statement (R .statements)) (map Objection (R .objections))
+
 pub listing-short : (s : List ℕ) (R : Register) (l : List ℕ) → Accepts s R → IsListing R l → length l ≤ 131072
-unfolding bookOf shown
 listing-short s R l a b =
     omega (
       arith,
@@ -146,10 +177,10 @@ listing-short s R l a b =
       header-length n m,
       four-digits n (omega arith),
       four-digits m (omega arith),
-      statements-short (R .statements) (b .verdicts) verdicts-short,
-      objections-short (R .objections) (b .kinds) kinds-short,
-      ap length (a .is-written),
-      bytes-length (map Statement (R .statements)) (map Objection (R .objections)),
+      statements-short (R .statements) (b .verdicts)
+          (λ x h. verdicts-short s R a x (getD (b .verdicts) x is-open) h (b .means x h)),
+      rows-bounded s R a (b .kinds) (b .of-kind),
+      text-length s R a,
       a .fits,
       a .valid .few-statements,
       a .valid .few-objections,
@@ -160,24 +191,3 @@ listing-short s R l a b =
 
     m : ℕ
     m = length (R .objections)
-
-    size-is : (x : ℕ) → Listed (book R) x → (v : Verdict) → Means (book R) x v → Within 1023 v
-    size-is x h v p = go v (length-bound (book R) x h v p)
-      where
-        go : (v : Verdict) → Within (length (marksOf R) - 1) v → Within 1023 v
-        go is-open w = tt
-        go (stands k) w = omega (arith, marks-counted R (a .valid), a .valid .few-statements)
-        go (falls k) w = omega (arith, marks-counted R (a .valid), a .valid .few-statements)
-
-    listed : (x : ℕ) → x < length (R .statements) → Listed (book R) x
-    listed x h = omega (arith, marks-counted R (a .valid))
-
-    verdicts-short : (x : ℕ) → x < length (R .statements) → length (lengthField (getD (b .verdicts) x is-open)) ≤ 4
-    verdicts-short x h =
-        verdict-short (getD (b .verdicts) x is-open) (size-is x (listed x h) (getD (b .verdicts) x is-open) (b .means x h))
-
-    kinds-short : (k : ℕ) → k < length (R .objections) → length (kindField (getD (b .kinds) k Idle)) ≤ 4
-    kinds-short k h =
-        let o : OfKind (book R) (getD (objectorsOf R) k 0) (getD (targetsOf R) k 0) (getD (b .kinds) k Idle) = b .of-kind k h in
-        subst (λ u. length (shown u) ≤ 4) (o .is) (kind-short (o .target) (o .objector)
-        (size-is (getD (objectorsOf R) k 0) (o .objects .0) (o .objector) (o .objector-means)))

@@ -1,7 +1,7 @@
 -- Rows put into a room piece by piece, the rows of all places one by one, and the listing part by part.
 use mathlib.Core.List.{List, [], _∷_, _++_, append-assoc}
 use mathlib.Core.Path.{_≡_, sym, ap, _∙_, subst}
-use Prim.Native.Nat.{ℕ, _+_}
+use Prim.Native.Nat.{ℕ, _+_, _<_}
 use native.Mathlib.Omega.{arith}
 use lib.ListN.{length, drop, length-append}
 use Rattle.game.specs.Label.{Verdict}
@@ -10,7 +10,7 @@ use Rattle.line.specs.Number.{decimal}
 use Rattle.listing.specs.Listing.{numbersRow, header, statementRow, objectionRow}
 use Rattle.listing.specs.Room.{Fits, Put, verdictFields, kindFields, rowsTo, statementPart, objectionPart, whole}
 use Rattle.listing.proofs.Room.{put-more}
-use Rattle.listing.proofs.Rows.{numbers-pieces, statement-pieces, objection-pieces, row-more}
+use Rattle.listing.proofs.Rows.{numbers-pieces, statement-pieces, objection-pieces, row-more, rows-longer, rows-fewer}
 
 module _ (room : List ℕ) (at : ℕ) where
   -- what fits with more behind it fits by itself
@@ -78,6 +78,14 @@ module _ (room : List ℕ) (at : ℕ) where
       let k : Fits room at (rowsTo n row ++ row n) = subst (Fits room at) (row-more row n) h in
       subst (λ w. Put room at w end′ room″) (sym (row-more row n))
       (more (rowsTo n row) (row n) k a (subst (λ w. Put room′ end w end′ room″) e b))
+
+  -- what fits all rows fits those up to the next one, and the next one behind those that were put
+  pub rows-fit : (row : ℕ → List ℕ) (n m : ℕ) → n < m → Fits room at (rowsTo m row) → Fits room at (rowsTo (n + 1) row)
+  rows-fit row n m l h = omega (arith, rows-fewer row (n + 1) m (omega arith))
+
+  pub row-fits : (row : ℕ → List ℕ) (n m : ℕ) {end : ℕ} {room′ : List ℕ} → n < m → Fits room at (rowsTo m row)
+      → Put room at (rowsTo n row) end room′ → length room′ ≡ length room → Fits room′ end (row n)
+  row-fits row n m l h a e = omega (arith, a .ends, rows-longer row n, rows-fewer row (n + 1) m (omega arith))
 
 -- the three parts, one behind the other
 module _ (room nums objectors targets labels lengths : List ℕ) where

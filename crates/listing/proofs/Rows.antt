@@ -59,10 +59,10 @@ kind-small (Felling n) = omega (arith, ten-digits n)
 kind-small (Delaying n) = omega (arith, ten-digits n)
 kind-small Standoff = omega arith
 
-statement-small : (number : ℕ) (v : Verdict) → length (statementRow number v) ≤ 64
+pub statement-small : (number : ℕ) (v : Verdict) → length (statementRow number v) ≤ 64
 statement-small number v = omega (arith, statement-length number v, ten-digits number, verdict-small v)
 
-objection-small : (y x : ℕ) (κ : Kind) → length (objectionRow y x κ) ≤ 64
+pub objection-small : (y x : ℕ) (κ : Kind) → length (objectionRow y x κ) ≤ 64
 objection-small y x κ = omega (arith, objection-length y x κ, ten-digits y, ten-digits x, kind-small κ)
 
 pub refused-small : (number place : ℕ) → length (refusedRow number place) ≤ 64
@@ -94,13 +94,13 @@ module _ (row : ℕ → List ℕ) where
           let q : m ≡ (n + d) + 1 = omega arith in rw q (let i : length (rowsTo n row) ≤ length (rowsTo (n + d) row) = go d
           (n + d) refl in omega (arith, rows-longer (n + d)))
 
-  rows-small : ((i : ℕ) → length (row i) ≤ 64) → (n : ℕ) → length (rowsTo n row) ≤ 64 * n
+  pub rows-small : ((i : ℕ) → length (row i) ≤ 64) → (n : ℕ) → length (rowsTo n row) ≤ 64 * n
   unfolding rowsTo
   rows-small h zero = omega arith
   rows-small h (suc n) = omega (arith, length-append (rowsTo n row) (row n), rows-small h n, h n)
 
   -- the first row, and those behind it
-  row-first : (n : ℕ) → rowsTo (suc n) row ≡ row 0 ++ rowsTo n (λ i. row (suc i))
+  pub row-first : (n : ℕ) → rowsTo (suc n) row ≡ row 0 ++ rowsTo n (λ i. row (suc i))
   unfolding rowsTo
   row-first zero = sym (nil (row 0))
     where

@@ -15,7 +15,7 @@ use Rattle.game.proofs.Verdict.{means-unique}
 use Rattle.game.proofs.Objection.{kind-exists}
 use Rattle.game.proofs.Lists.{objects-entry}
 use Rattle.line.specs.declared.StatementLine.{StatementLine}
-use Rattle.text.specs.Register.{Register, numbers, objectorNumbers, targetNumbers, Issued, placeOf, marksOf, objectorsOf, targetsOf}
+use Rattle.text.specs.Register.{Register, numbers, objectorNumbers, targetNumbers, Issued, placeOf, marksOf, objectorsOf, targetsOf, book}
 use Rattle.text.specs.State.{Holds}
 use Rattle.text.proofs.Order.{marks-counted, objectors-counted, targets-counted, register-in-order}
 use Rattle.text.proofs.Steps.{place-is, objector-entry, target-entry}
@@ -143,6 +143,21 @@ module _ (R : Register) (nums marks objectors targets labels lengths : List ℕ)
   abbrev κs : ℕ → Kind
   κs = kindAt (objectorsOf R) (targetsOf R) labels lengths
 
+  pub own-means : (x : ℕ) → x < length (R .statements) → Means (book R) x (vs x)
+  own-means x h =
+      verdict-told (numbers R) (marksOf R) (objectorsOf R) (targetsOf R) labels lengths own x
+      (omega (arith, marks-counted R (ready .made .valid)))
+
+  pub own-kind : (k : ℕ) → k < length (R .objections) → OfKind (book R) (getD (objectorsOf R) k 0) (getD (targetsOf R) k 0) (κs k)
+  own-kind k h =
+      kind-of-entry (numbers R) (marksOf R) (objectorsOf R) (targetsOf R) labels lengths own k
+      (omega (arith, objectors-counted R (ready .made .valid)))
+
+  pub own-row : (k : ℕ) → k < length (R .objections)
+      → objectionAt (numbers R) (objectorsOf R) (targetsOf R) labels lengths k ≡ objectionRow (getD (objectorNumbers R) k 0)
+      (getD (targetNumbers R) k 0) (κs k)
+  own-row k h = ap₂ (λ y x. objectionRow y x (κs k)) (objector-number k h) (target-number k h)
+
   statements-same : statementPart (numbers R) labels lengths ≡ statementRows (R .statements) (upTo (length (R .statements)) vs)
   unfolding statementPart
   statements-same =
@@ -156,7 +171,7 @@ module _ (R : Register) (nums marks objectors targets labels lengths : List ℕ)
       (objectors-counted R (ready .made .valid))
       ∙ rows-same (length (R .objections)) (objectionAt (numbers R) (objectorsOf R) (targetsOf R) labels lengths)
       (λ k. objectionRow (getD (objectorNumbers R) k 0) (getD (targetNumbers R) k 0) (κs k))
-      (λ k h. ap₂ (λ y x. objectionRow y x (κs k)) (objector-number k h) (target-number k h))
+      own-row
       ∙ sym (objection-rows (R .objections) κs)
 
   whole-same : whole (numbers R) (objectorsOf R) (targetsOf R) labels lengths ≡ listing R (upTo (length (R .statements)) vs)
@@ -172,14 +187,8 @@ module _ (R : Register) (nums marks objectors targets labels lengths : List ℕ)
     kinds = upTo (length (R .objections)) κs;
     verdict-each = length-upTo (length (R .statements)) vs;
     kind-each = length-upTo (length (R .objections)) κs;
-    means =
-        λ x h. rw (getD-upTo (length (R .statements)) vs is-open x h)
-        (verdict-told (numbers R) (marksOf R) (objectorsOf R) (targetsOf R) labels lengths own x
-        (omega (arith, marks-counted R (ready .made .valid))));
-    of-kind =
-        λ k h. rw (getD-upTo (length (R .objections)) κs Idle k h)
-        (kind-of-entry (numbers R) (marksOf R) (objectorsOf R) (targetsOf R) labels lengths own k
-        (omega (arith, objectors-counted R (ready .made .valid))));
+    means = λ x h. rw (getD-upTo (length (R .statements)) vs is-open x h) (own-means x h);
+    of-kind = λ k h. rw (getD-upTo (length (R .objections)) κs Idle k h) (own-kind k h);
     is = whole-same;
   }
 

@@ -10,7 +10,7 @@ ghost use Rattle.line.specs.Number.{decimal};
 ghost use Rattle.text.specs.Register.{Register};
 ghost use Rattle.solved.specs.Solved.{Ready};
 ghost use Rattle.listing.specs.Listing.{numbersRow, header, refusedRow, statementRow, objectionRow, IsListing};
-ghost use Rattle.listing.specs.Room.{Fits, Put, twoDigits, verdictFields, kindFields, said, statementPart, objectionPart, Lists};
+ghost use Rattle.listing.specs.Room.{Fits, Put, twoDigits, verdictFields, kindFields, said, objectionAt, statementPart, objectionPart, Lists};
 
 // How many digits a number has.
 fn number_size(number: u32) -> usize
@@ -48,7 +48,8 @@ fn kind_size(kind: Kind) -> usize
     }
 }
 
-fn statement_size(number: u32, label: u8, turns: u16) -> usize
+// The size of a statement's row.
+pub fn statement_size(number: u32, label: u8, turns: u16) -> usize
     ensures { λ r. ⌜ r ≡ length (statementRow number (said label turns)) ⌝ }
 {
     number_size(number) + 1 + verdict_size(label, turns) + 1
@@ -75,6 +76,27 @@ fn statements_size(numbers: &[u32], labels: &[u8], lengths: &[u16]) -> usize
     total
 }
 
+// The size of the row of the objection k.
+pub fn entry_size(
+    numbers: &[u32],
+    marks: &[u8],
+    objectors: &[u32],
+    targets: &[u32],
+    labels: &[u8],
+    lengths: &[u16],
+    k: usize,
+) -> usize
+    requires { ⌜ Lists (now numbers) (now marks) (now objectors) (now targets) (now labels) (now lengths)
+        × (k < length (now objectors)) ⌝ }
+    ensures { λ r. ⌜ r ≡ length (objectionAt (now (numbers .entry)) (now (objectors .entry)) (now (targets .entry))
+        (now (labels .entry)) (now (lengths .entry)) k) ⌝ }
+{
+    let y = place(objectors[k]);
+    let x = place(targets[k]);
+    let kind = label::kind_at(marks, objectors, targets, labels, lengths, k);
+    objection_size(numbers[y], numbers[x], kind)
+}
+
 // The size of the rows of all objections.
 fn objections_size(
     numbers: &[u32],
@@ -91,13 +113,7 @@ fn objections_size(
     let mut total: usize = 0;
     let mut k = 0;
     while k < objectors.len() {
-        let y = place(objectors[k]);
-        let x = place(targets[k]);
-        total += objection_size(
-            numbers[y],
-            numbers[x],
-            label::kind_at(marks, objectors, targets, labels, lengths, k),
-        );
+        total += entry_size(numbers, marks, objectors, targets, labels, lengths, k);
         k += 1;
     }
     total
@@ -184,7 +200,8 @@ fn put_kind(room: &mut [u8], at: usize, kind: Kind) -> usize
     }
 }
 
-fn put_statement(room: &mut [u8], at: usize, number: u32, label: u8, turns: u16) -> usize
+// A statement's row.
+pub fn put_statement(room: &mut [u8], at: usize, number: u32, label: u8, turns: u16) -> usize
     requires { ⌜ Fits (now room) at (statementRow number (said label turns)) ⌝ }
     ensures { λ r. ⌜ Put (now (room .entry)) at (statementRow number (said label turns)) r (now (room .exit)) ⌝ }
 {
@@ -248,6 +265,30 @@ fn put_statements(
     end
 }
 
+// The row of the objection k.
+pub fn put_entry(
+    room: &mut [u8],
+    at: usize,
+    numbers: &[u32],
+    marks: &[u8],
+    objectors: &[u32],
+    targets: &[u32],
+    labels: &[u8],
+    lengths: &[u16],
+    k: usize,
+) -> usize
+    requires { ⌜ Lists (now numbers) (now marks) (now objectors) (now targets) (now labels) (now lengths)
+        × (k < length (now objectors)) ⌝ }
+    requires { ⌜ Fits (now room) at (objectionAt (now numbers) (now objectors) (now targets) (now labels) (now lengths) k) ⌝ }
+    ensures { λ r. ⌜ Put (now (room .entry)) at (objectionAt (now (numbers .entry)) (now (objectors .entry))
+        (now (targets .entry)) (now (labels .entry)) (now (lengths .entry)) k) r (now (room .exit)) ⌝ }
+{
+    let y = place(objectors[k]);
+    let x = place(targets[k]);
+    let kind = label::kind_at(marks, objectors, targets, labels, lengths, k);
+    put_objection(room, at, numbers[y], numbers[x], kind)
+}
+
 // The rows of all objections.
 fn put_objections(
     room: &mut [u8],
@@ -267,10 +308,17 @@ fn put_objections(
     let mut end = at;
     let mut k = 0;
     while k < objectors.len() {
-        let y = place(objectors[k]);
-        let x = place(targets[k]);
-        let kind = label::kind_at(marks, objectors, targets, labels, lengths, k);
-        end = put_objection(room, end, numbers[y], numbers[x], kind);
+        end = put_entry(
+            room,
+            end,
+            numbers,
+            marks,
+            objectors,
+            targets,
+            labels,
+            lengths,
+            k,
+        );
         k += 1;
     }
     end

@@ -7,8 +7,8 @@ use native.Mathlib.Omega.{arith}
 use lib.ListN.{length}
 use Rattle.game.specs.Book.{bookOf}
 use Rattle.game.proofs.Line.{line-bound}
-use Rattle.label.specs.Labelled.{Solved}
-use Rattle.argument.specs.Argument.{Lined, Settled}
+use Rattle.label.specs.Labelled.{Solved, Settled}
+use Rattle.argument.specs.Argument.{Lined}
 use Rattle.exercise.specs.Exercise.{Answered}
 use Rattle.pairs.specs.Refuses.{Lists}
 use Rattle.refusal.specs.declared.Refusal.the-variants.{Room, Asked, Turns}

@@ -12,12 +12,12 @@ use Rattle.game.specs.Find.{Found}
 use Rattle.game.specs.Line.{Line}
 use Rattle.game.proofs.Line.{line-bound, line-listed}
 use Rattle.label.proofs.Parts.{beyond}
-use Rattle.argument.specs.Argument.{Lined, Settled}
+use Rattle.argument.specs.Argument.{Lined}
 use Rattle.exercise.specs.Exercise.{Answered}
 use Rattle.text.specs.Register.{Register, numbers, Issued, book}
 use Rattle.text.specs.State.{Made}
-use Rattle.text.proofs.Order.{mapped, marks-counted}
-use Rattle.solved.specs.Solved.{Places, Ready}
+use Rattle.text.proofs.Order.{mapped}
+use Rattle.solved.specs.Solved.{Places}
 use Rattle.solved.proofs.Asked.{lists-handed, counted, book-is, place}
 use Rattle.refusal.specs.declared.Refusal.the-variants.{Room, Turns}
 use Rattle.answer.specs.Answer.{Begins, Asks}
@@ -117,13 +117,3 @@ module _ (R : Register) (nums marks objectors targets : List ℕ) (made : Made R
         told =
             rw (made .numbers-are) at (retold (λ i. getD nums i 0) (p .line) room line after (written g)
             (omega (arith, p .counts)) (rw (p .counts) at b))
-
--- what is ready to be listed is ready for its lines of argument
-pub ready-settled : (R : Register) (nums marks objectors targets labels lengths : List ℕ)
-    → Ready R nums marks objectors targets labels lengths → Settled marks objectors targets labels lengths
-ready-settled R nums marks objectors targets labels lengths r = record {
-  handed = lists-handed R nums marks objectors targets (r .made);
-  labelled = rw (r .made .marks-are, r .made .objectors-are, r .made .targets-are) (r .labelled);
-  labels-room = omega (arith, r .labels-room, marks-counted R (r .made .valid), ap length (r .made .marks-are));
-  lengths-room = omega (arith, r .lengths-room, marks-counted R (r .made .valid), ap length (r .made .marks-are));
-}

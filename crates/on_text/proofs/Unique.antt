@@ -1,6 +1,5 @@
 -- Every promise on a text leaves one answer and one content of the rooms: `unique-CALL` for each call.
 use mathlib.Core.List.{List}
-use mathlib.Core.Logic.{inr, ⊎-elim, _↔_}
 use mathlib.Core.Path.{_≡_, refl, sym, _∙_, ap, subst}
 use Prim.Native.Nat.{ℕ, _≤_, _<_}
 use native.Mathlib.Omega.{arith}
@@ -16,16 +15,25 @@ use Rattle.text.proofs.Unique as text
 use Rattle.listing.specs.Listing.{IsListing}
 use Rattle.listing.proofs.Listing.{listing-once}
 use Rattle.refusal.specs.declared.Refusal.{Refusal}
-use Rattle.refusal.specs.declared.Refusal.the-variants.{Room, Asked, Turns}
-use Rattle.answer.specs.Answer.{Promised, Begins, Short, Asks}
+use Rattle.answer.specs.Answer.{Begins, Short, Asks}
 use Rattle.answer.specs.declared.Answer.{Answer}
-use Rattle.answer.specs.declared.Answer.the-variants.{Refused}
 use Rattle.answer.proofs.Rooms.{begins-unique, written-unique}
-use Rattle.answer.proofs.Promises.{through, promised-unique, refused-exactly, Exactly, short-once, asks-once, asks-none, asks-14, asks-15, asks-10}
+use Rattle.answer.proofs.Promises.{promised-unique, Exactly, short-once, asks-once, asks-none}
 use Rattle.solved.specs.Solved.{TextRefuses}
 use Rattle.solved.proofs.Laws.{place-once, text-once, text-apart}
-use Rattle.on_text.specs.Texts.{StatementsGiven, TextStatements, TextLabels, TextLengths, ListingIn, ListingShort, TextListing, byNumber, LineIn, LineShort, LineRefused, TextLine, ExerciseIn, TextExercise}
-use Rattle.text.specs.Reads.{Accepts, Refuses}
+use Rattle.solved.proofs.Lists.{asked-exactly, list-apart, list-unique}
+use Rattle.on_text.specs.Texts.{StatementsGiven, TextStatements, TextLabels, TextLengths, ListingIn, ListingShort, TextListing, byNumber, LineIn, LineShort, TextLine, ExerciseIn, TextExercise}
+use Rattle.text.specs.Reads.{Accepts}
+
+-- a statement has one line of argument, and told by numbers it is as long
+abbrev LineOf : Register → ℕ → List ℕ → Type 0
+LineOf R x l = Line (book R) x l
+
+line-of-once : (R : Register) (x : ℕ) (l l′ : List ℕ) → LineOf R x l → LineOf R x l′ → l ≡ l′
+line-of-once R x l l′ = line-unique (book R)
+
+as-many : (R : Register) (l : List ℕ) → length (byNumber R l) ≡ length l
+as-many R l = length-map l (λ i. getD (numbers R) i 0)
 
 -- A text is the written form of one register at most, so its answers are one too.
 module _ (s : List ℕ) where
@@ -82,42 +90,9 @@ module _ (s : List ℕ) where
 
   -- what is asked of one number
   module _ (number : ℕ) where
-    line-apart : (room : List ℕ) (r : Refusal) (n : ℕ) (after : List ℕ) → TextRefuses s (λ R. LineRefused R number room) r
-        → (R : Register) × Accepts s R × LineIn R number room n after → ⊥
-    line-apart room r n after p (R, a, (x, h, (l, is, (c, f, e)))) =
-        text-apart s (λ R. LineRefused R number room) r R p a (λ q.
-        asks-none (Issued R number) 0 (LineShort R number room) r q (x, h .0, h .1) (omega arith) (λ (x′, h′, (l′, is′, t)).
-        omega (
-          arith,
-          f,
-          t,
-          length-map l (λ i. getD (numbers R) i 0),
-          ap length (line-unique (book R) (subst (λ i. Line (book R) i l′) (place-once R (a .valid) number x′ x h′ h) is′)
-              is),
-        )))
-
     pub unique-text-line : (room : List ℕ) (a a′ : Answer) (after after′ : List ℕ) → TextLine s number room a after
         → TextLine s number room a′ after′ → (a ≡ a′) × (after ≡ after′)
-    unique-text-line room =
-        promised-unique (TextRefuses s later) Gives (text-once s later
-        (λ R. asks-once (Issued R number) 0 (LineShort R number room))) (line-apart room) same room
-      where
-        later : Register → Refusal → Type 0
-        later R = LineRefused R number room
-
-        Gives : ℕ → List ℕ → Type 0
-        Gives n after = (R : Register) × Accepts s R × LineIn R number room n after
-
-        one : (R : Register) → Accepts s R → (n n′ : ℕ) (after after′ : List ℕ) → LineIn R number room n after
-            → LineIn R number room n′ after′ → (n ≡ n′) × (after ≡ after′)
-        one R a n n′ after after′ (x, h, (l, is, w)) (x′, h′, (l′, is′, w′)) =
-            let e : l ≡ l′ = line-unique (book R) is (subst (λ i. Line (book R) i l′) (place-once R (a .valid) number x′ x h′ h)
-            is′) in
-            written-unique (byNumber R l) (byNumber R l′) room n n′ after after′ (ap (byNumber R) e) w w′
-
-        same : (n n′ : ℕ) (after after′ : List ℕ) → Gives n after → Gives n′ after′ → (n ≡ n′) × (after ≡ after′)
-        same n n′ after after′ (R, a, g) (R′, a′, g′) =
-            one R a n n′ after after′ g (subst (λ T. LineIn T number room n′ after′) (text.accepts-once s R′ R a′ a) g′)
+    unique-text-line = list-unique s number LineOf line-of-once byNumber as-many
 
     module _ (turns : ℕ) where
       exercise-apart : (r : Refusal) (n : ℕ) (after : Unit {0}) → TextRefuses s (λ R. Asks (Issued R number) turns ⊥) r
@@ -128,7 +103,8 @@ module _ (s : List ℕ) where
 
       pub unique-text-exercise : (a a′ : Answer) → TextExercise s number turns a → TextExercise s number turns a′ → a ≡ a′
       unique-text-exercise a a′ p q =
-          promised-unique (TextRefuses s later) Gives (text-once s later (λ R. asks-once (Issued R number) turns ⊥)) exercise-apart
+          promised-unique (TextRefuses s later) Gives (text-once s later (λ R. asks-once
+          (Issued R number) turns ⊥)) exercise-apart
           same tt a a′ tt tt p q .0
         where
           later : Register → Refusal → Type 0
@@ -148,52 +124,18 @@ module _ (s : List ℕ) where
               (one R a n n′ g (subst (λ T. ExerciseIn T number turns n′ tt) (text.accepts-once s R′ R a′ a) g′), refl)
 
   -- 14, 15 and 10, each given exactly when 01 says
-  later-only : (later : Register → Refusal → Type 0) (r : Refusal) → ¬ Refuses s r
-      → TextRefuses s later r ↔ ((R : Register) × Accepts s R × later R r)
-  later-only later r n = (⊎-elim (λ p. absurd (n p)) (λ p. p), inr)
-
-  within : {B C : Register → Type 0} → ((R : Register) → B R ↔ C R)
-      → ((R : Register) × Accepts s R × B R) ↔ ((R : Register) × Accepts s R × C R)
-  within e = (λ p. (p .0, p .1, e (p .0) .0 (p .2)), λ p. (p .0, p .1, e (p .0) .1 (p .2)))
-
-  module _ {Rooms : Type 0} (number turns : ℕ) (short : Register → Type 0) (gives : ℕ → Rooms → Type 0)
-      (apart : (r : Refusal) (n : ℕ) (after : Rooms) → TextRefuses s (λ R. Asks (Issued R number) turns (short R)) r
-      → gives n after → ⊥) where
-    exactly : (rooms : Rooms) (a : Answer) (after : Rooms) → Promised
-        (TextRefuses s (λ R. Asks (Issued R number) turns (short R))) gives rooms a after
-        → Exactly ((R : Register) × Accepts s R × (¬ Issued R number))
-        ((R : Register) × Accepts s R × (Issued R number × (6 < turns)))
-        ((R : Register) × Accepts s R × (Issued R number × (turns ≤ 6) × short R)) a
-    exactly rooms a after p = record {
-      fourteen =
-          through (due Asked) (through (later-only later Asked (λ n. n))
-          (within (λ R. asks-14 (Issued R number) turns (short R))));
-      fifteen =
-          through (due Turns) (through (later-only later Turns (λ n. n))
-          (within (λ R. asks-15 (Issued R number) turns (short R))));
-      ten =
-          through (due Room) (through (later-only later Room (λ n. n)) (within (λ R. asks-10 (Issued R number) turns (short R))));
-    }
-      where
-        later : Register → Refusal → Type 0
-        later R = Asks (Issued R number) turns (short R)
-
-        due : (r : Refusal) → (a ≡ Refused r) ↔ TextRefuses s later r
-        due =
-            refused-exactly (TextRefuses s later) gives (text-once s later (λ R. asks-once (Issued R number) turns (short R))) apart
-            rooms a after p
-
   pub exactly-text-line : (number : ℕ) (room : List ℕ) (a : Answer) (after : List ℕ) → TextLine s number room a after
       → Exactly ((R : Register) × Accepts s R × (¬ Issued R number)) ((R : Register) × Accepts s R × (Issued R number × (6 < 0)))
       ((R : Register) × Accepts s R × (Issued R number × (0 ≤ 6) × LineShort R number room)) a
   exactly-text-line number room =
-      exactly number 0 (λ R. LineShort R number room) (λ n after. (R : Register) × Accepts s R × LineIn R number room n after)
-      (line-apart number room) room
+      asked-exactly s number 0 (λ R. LineShort R number room)
+      (λ n after. (R : Register) × Accepts s R × LineIn R number room n after)
+      (list-apart s number LineOf line-of-once byNumber as-many room) room
 
   pub exactly-text-exercise : (number turns : ℕ) (a : Answer) → TextExercise s number turns a
       → Exactly ((R : Register) × Accepts s R × (¬ Issued R number))
       ((R : Register) × Accepts s R × (Issued R number × (6 < turns)))
       ((R : Register) × Accepts s R × (Issued R number × (turns ≤ 6) × ⊥)) a
   exactly-text-exercise number turns a =
-      exactly number turns (λ R. ⊥) (λ n after. (R : Register) × Accepts s R × ExerciseIn R number turns n after)
+      asked-exactly s number turns (λ R. ⊥) (λ n after. (R : Register) × Accepts s R × ExerciseIn R number turns n after)
       (exercise-apart number turns) tt a tt

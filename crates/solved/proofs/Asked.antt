@@ -8,12 +8,13 @@ use lib.ListN.{length, getD}
 use Rattle.game.specs.Book.{bookOf}
 use Rattle.game.specs.Find.{Found}
 use Rattle.chain.specs.Handed.{Handed}
+use Rattle.label.specs.Labelled.{Settled}
 use Rattle.text.specs.Register.{Register, Issued, book}
 use Rattle.text.specs.State.{Made}
-use Rattle.text.proofs.Order.{numbers-counted}
+use Rattle.text.proofs.Order.{numbers-counted, marks-counted}
 use Rattle.refusal.specs.declared.Refusal.the-variants.{Asked}
 use Rattle.answer.specs.Answer.{Asks}
-use Rattle.solved.specs.Solved.{Places}
+use Rattle.solved.specs.Solved.{Places, Ready}
 use Rattle.solved.proofs.Rooms.{register-handed}
 
 module _ (R : Register) (nums marks objectors targets : List ℕ) (made : Made R nums marks objectors targets) where
@@ -38,3 +39,13 @@ module _ (R : Register) (nums marks objectors targets : List ℕ) (made : Made R
     module _ (h : x < length nums) where
       pub place : Places R number x
       place = (omega (arith, ap length (made .numbers-are)), sym (ap (λ (u : List ℕ). getD u x 0) (made .numbers-are)) ∙ f .2 h)
+
+-- what is ready is settled
+pub ready-settled : (R : Register) (nums marks objectors targets labels lengths : List ℕ)
+    → Ready R nums marks objectors targets labels lengths → Settled marks objectors targets labels lengths
+ready-settled R nums marks objectors targets labels lengths r = record {
+  handed = lists-handed R nums marks objectors targets (r .made);
+  labelled = rw (r .made .marks-are, r .made .objectors-are, r .made .targets-are) (r .labelled);
+  labels-room = omega (arith, r .labels-room, marks-counted R (r .made .valid), ap length (r .made .marks-are));
+  lengths-room = omega (arith, r .lengths-room, marks-counted R (r .made .valid), ap length (r .made .marks-are));
+}

@@ -1,3 +1,4 @@
 pub mod Laws
 pub mod Rooms
 pub mod Asked
+pub mod Lists

@@ -1,7 +1,7 @@
 -- A test of rows that computes, and why a row that passes it holds. The register of a text is only guessed from its bytes: the
 -- test holds the guess's written form against the text, its numbers against the rules, and its listing against the row's.
 use mathlib.Core.Bool.{Bool, true, false, not, cond, _&&_, _||_}
-use mathlib.Core.List.{List, [], _∷_}
+use mathlib.Core.List.{List, [], _∷_, _++_}
 use mathlib.Core.Option.{Option, some, none}
 use mathlib.Core.Path.{_≡_, refl, ap₂, subst}
 use Prim.Native.Nat.{ℕ, _+_, _-_, _*_, _<_}
@@ -20,14 +20,17 @@ use Rattle.game.proofs.Search.{both, and-of, only-if, any-at, all-at}
 use Rattle.game.proofs.Lists.{objects-entry}
 use Rattle.game.proofs.Verdict.{verdict, verdictBy, verdict-means}
 use Rattle.game.proofs.Objection.{never-occurs}
+use Rattle.game.proofs.Reason.{counts, belonging, reaching, within-exactly}
 use Rattle.line.specs.Number.{decimal, decimalIn}
 use Rattle.line.specs.declared.Mark.the-variants.{Read, Unread}
 use Rattle.text.specs.Register.{Register, Issued, Valid, numbers, objectorNumbers, targetNumbers, objectorsOf, targetsOf, marksOf, book, written, bytes, placeOf}
 use Rattle.text.proofs.Order.{marks-counted, objectors-counted, register-in-order}
 use Rattle.listing.specs.Listing.{numbersRow, statementRow, statementRows, objectionRow, objectionRows, listing, IsListing}
 use Rattle.listing.specs.Room.{orIdle}
+use Rattle.alone.specs.Alone.{keep}
+use Rattle.reasons.specs.Reasons.{IsReason}
 use Rattle.listing.proofs.Rows.{upTo, length-upTo, getD-upTo}
-use Rattle.table.specs.Table.{Row, lists, finishes, Says, Every, ascii, table}
+use Rattle.table.specs.Table.{Row, lists, finishes, explains, Says, Every, ascii, table, reasons}
 use Rattle.text.specs.Reads.{Accepts}
 
 -- The guess: fields end at bytes up to 10, and a line has three.
@@ -178,6 +181,20 @@ module _ (R : Register) where
   listingOf : List ℕ
   listingOf = listing R (upTo (length (R .statements)) verdictAt) (upTo (length (R .objections)) kindAt)
 
+  inside : ℕ → ℕ → Bool
+  inside x k =
+      reaching (book R) x (book R .size) (getD (targetsOf R) k 0)
+      && belonging (book R) (getD (objectorsOf R) k 0) (getD (targetsOf R) k 0)
+
+  reasonOf : ℕ → List ℕ
+  reasonOf x =
+      statementRow (getD (numbers R) x 0) (verdictAt x) ++ objectionRows (keep (inside x) (R .objections))
+      (keep (inside x) (upTo (length (R .objections)) kindAt))
+
+  -- the statement of the number is at the place x
+  named : ℕ → ℕ → Bool
+  named number x = ltb x (length (R .statements)) && (ltb x (length (numbers R)) && eqb (getD (numbers R) x 0) number)
+
   module _ (valid : Valid R) where
     placed : (x : ℕ) → x < length (R .statements) → Listed (book R) x
     unfolding bookOf
@@ -217,6 +234,20 @@ module _ (R : Register) where
       means = λ x h. rw (getD-upTo (length (R .statements)) verdictAt is-open x h) (verdict-is x (placed x h));
       of-kind = λ k h. rw (getD-upTo (length (R .objections)) kindAt Idle k h) (kind-is k h);
       is = same-is l listingOf t;
+    }
+
+    -- and so do the objections that the computed reason reaches
+    reason-is : (x : ℕ) → x < length (R .statements) → (l : List ℕ) → T (same l (reasonOf x)) → IsReason R x l
+    unfolding reasonOf inside
+    reason-is x h l t = record {
+      verdict = verdictAt x;
+      means = verdict-is x (placed x h);
+      kinds = upTo (length (R .objections)) kindAt;
+      kind-each = length-upTo (length (R .objections)) kindAt;
+      of-kind = λ k i. rw (getD-upTo (length (R .objections)) kindAt Idle k i) (kind-is k i);
+      inside = inside x;
+      exactly = λ k i. within-exactly (book R) x (placed x h) (getD (objectorsOf R) k 0) (getD (targetsOf R) k 0);
+      is = same-is l (reasonOf x) t;
     }
 
 -- The book F is a finish of the book B.
@@ -263,9 +294,12 @@ passes (lists text listing) = accepted (ascii text) (registerOf text) && same (a
 passes (finishes text finish listing) =
     (accepted (ascii text) (registerOf text) && finishing (book (registerOf text)) (book (registerOf finish)))
     && (accepted (ascii finish) (registerOf finish) && same (ascii listing) (listingOf (registerOf finish)))
+passes (explains text number reason) =
+    accepted (ascii text) (registerOf text) && (named (registerOf text) number (placeOf (numbers (registerOf text)) number)
+    && same (ascii reason) (reasonOf (registerOf text) (placeOf (numbers (registerOf text)) number)))
 
 passes-is : (r : Row) → T (passes r) → Says r
-unfolding passes
+unfolding passes named
 passes-is (lists text listing) t =
     let (a, l) = both (accepted (ascii text) (registerOf text)) (same (ascii listing) (listingOf (registerOf text))) t in
     let accepts : Accepts (ascii text) (registerOf text) = accepted-is (ascii text) (registerOf text) a in
@@ -284,6 +318,22 @@ passes-is (finishes text finish listing) t =
       finishing-is (book (registerOf text)) (book (registerOf finish)) f,
       listing-is (registerOf finish) (accepts .valid) (ascii listing) l,
     )
+passes-is (explains text number reason) t =
+    let R : Register = registerOf text in
+    let x : ℕ = placeOf (numbers R) number in
+    let (a, p) = both (accepted (ascii text) R) (named R number x && same (ascii reason) (reasonOf R x)) t in
+    let (n, l) = both (named R number x) (same (ascii reason) (reasonOf R x)) p in
+    let (h, q) = both (ltb x (length (R .statements))) (ltb x (length (numbers R)) && eqb (getD (numbers R) x 0) number) n in
+    let (i, e) = both (ltb x (length (numbers R))) (eqb (getD (numbers R) x 0) number) q in
+    let accepts : Accepts (ascii text) R = accepted-is (ascii text) R a in (
+      R,
+      accepts,
+      (
+        x,
+        (ltb→lt x (length (numbers R)) i, eqb→eq (getD (numbers R) x 0) number e),
+        reason-is R (accepts .valid) x (ltb→lt x (length (R .statements)) h) (ascii reason) l,
+      ),
+    )
 
 pass : List Row → Bool
 pass [] = true
@@ -300,6 +350,12 @@ unfolding table ascii extend fields value add guess registerOf same issued numbe
     verdictAt kindAt listingOf kept added finishing passes pass any all bookOf standsWithin fallsWithin verdict verdictBy decimal
     decimalIn bytes placeOf numbersRow statementRow statementRows objectionRow objectionRows
 table-holds = pass-is table tt
+
+pub reasons-hold : Every Says reasons
+unfolding reasons ascii extend fields value add guess registerOf same issued numbered differ known distinct ordered accepted
+    verdictAt kindAt inside reasonOf named passes pass any all bookOf standsWithin fallsWithin verdict verdictBy decimal decimalIn
+    bytes placeOf statementRow objectionRow objectionRows keep counts belonging reaching
+reasons-hold = pass-is reasons tt
 
 -- Two of the table's registers by name, for those who need the register itself: the lone read statement, and the chain of four.
 unfoldable pub lone : Register

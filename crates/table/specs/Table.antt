@@ -1,13 +1,16 @@
--- The examples that 01 marks P, in one table. A row is a register text with its listing, or a register text with the text of
--- a finish and the finish's listing. What a row says is said by the meanings: texts by their written form, labels and
--- lengths by forced win, the finish by the finish relation.
+-- The examples that 01 marks P, in one table, and examples of reasons in another. A row is a register text with its listing, a
+-- register text with the text of a finish and the finish's listing, or a register text with a number and the reason of its
+-- statement. What a row says is said by the meanings: texts by their written form, labels and lengths by forced win, the finish
+-- by the finish relation, the reason by what it reaches.
 use mathlib.Core.List.{List, [], _∷_}
 use Prim.Native.Nat.{ℕ}
 use Prim.Native.Char.{code}
 use Prim.Native.String.{String, [] as ended, _∷_ as _then_}
 use Rattle.game.specs.Finish.{Finish}
 use Rattle.text.specs.Register.{Register, book}
+use Rattle.solved.specs.Solved.{Places}
 use Rattle.listing.specs.Listing.{IsListing}
+use Rattle.reasons.specs.Reasons.{IsReason}
 use Rattle.text.specs.Reads.{Accepts}
 
 -- the bytes of a text as it is typed here: `\t` is byte 9, `\n` byte 10
@@ -18,11 +21,14 @@ ascii (c then s) = code c ∷ ascii s
 pub data Row : Type 0 where
   lists : (text listing : String) → Row
   finishes : (text finish listing : String) → Row
+  explains : (text : String) (number : ℕ) (reason : String) → Row
 
 abbrev pub Says : Row → Type 0
 Says (lists text listing) = (R : Register) × Accepts (ascii text) R × IsListing R (ascii listing)
 Says (finishes text finish listing) =
     (R F : Register) × Accepts (ascii text) R × Accepts (ascii finish) F × Finish (book R) (book F) × IsListing F (ascii listing)
+Says (explains text number reason) =
+    (R : Register) × Accepts (ascii text) R × ((x : ℕ) × Places R number x × IsReason R x (ascii reason))
 
 abbrev pub Every : (Row → Type 0) → List Row → Type 0
 Every P [] = Unit {0}
@@ -51,4 +57,17 @@ table =
     ∷ finishes "S\t1\tU\nS\t2\tR\nS\t3\tR\nS\t4\tR\nO\t4\t3\nO\t3\t2\nO\t2\t1\n" "S\t1\tR\nS\t2\tR\nS\t3\tR\nS\t4\tR\nO\t4\t3\nO\t3\t2\nO\t2\t1\nO\t4\t1\n" "REGISTER\t4\t4\n1\tfalls\t1\n2\tstands\t2\n3\tfalls\t1\n4\tstands\t0\n4\t3\tfelling\t1\n3\t2\tdelaying\t2\n2\t1\tfelling\t3\n4\t1\tfelling\t1\n"
     -- "all read; 5 against 6; 6 against 7; 7 against 6: 5 stands 0, 6 falls 1, 7 stands 2; 7 against 6 is felling, length 3"
     ∷ lists "S\t5\tR\nS\t6\tR\nS\t7\tR\nO\t5\t6\nO\t6\t7\nO\t7\t6\n" "REGISTER\t3\t3\n5\tstands\t0\n6\tfalls\t1\n7\tstands\t2\n5\t6\tfelling\t1\n6\t7\tdelaying\t2\n7\t6\tfelling\t3\n"
+    ∷ []
+
+-- What too narrow and too wide reasons would get wrong. In 5, 6, 7 the reasons for 6 and 7 each have all three objections, and 5
+-- has none. In the listing of 01, 103 against 102 is in no reason.
+unfoldable pub reasons : List Row
+reasons =
+    explains "S\t5\tR\nS\t6\tR\nS\t7\tR\nO\t5\t6\nO\t6\t7\nO\t7\t6\n" 6 "6\tfalls\t1\n5\t6\tfelling\t1\n6\t7\tdelaying\t2\n7\t6\tfelling\t3\n"
+    ∷ explains "S\t101\tR\nS\t102\tR\nS\t103\tR\nS\t104\tR\nO\t102\t101\nO\t101\t102\nO\t103\t102\nO\t104\t103\n" 102 "102\topen\t-\n102\t101\tstandoff\t-\n101\t102\tstandoff\t-\n"
+    ∷ explains "S\t5\tR\nS\t6\tR\nS\t7\tR\nO\t5\t6\nO\t6\t7\nO\t7\t6\n" 7 "7\tstands\t2\n5\t6\tfelling\t1\n6\t7\tdelaying\t2\n7\t6\tfelling\t3\n"
+    ∷ explains "S\t5\tR\nS\t6\tR\nS\t7\tR\nO\t5\t6\nO\t6\t7\nO\t7\t6\n" 5 "5\tstands\t0\n"
+    ∷ explains "S\t101\tR\nS\t102\tR\nS\t103\tR\nS\t104\tR\nO\t102\t101\nO\t101\t102\nO\t103\t102\nO\t104\t103\n" 101 "101\topen\t-\n102\t101\tstandoff\t-\n101\t102\tstandoff\t-\n"
+    ∷ explains "S\t101\tR\nS\t102\tR\nS\t103\tR\nS\t104\tR\nO\t102\t101\nO\t101\t102\nO\t103\t102\nO\t104\t103\n" 103 "103\tfalls\t1\n104\t103\tfelling\t1\n"
+    ∷ explains "S\t101\tR\nS\t102\tR\nS\t103\tR\nS\t104\tR\nO\t102\t101\nO\t101\t102\nO\t103\t102\nO\t104\t103\n" 104 "104\tstands\t0\n"
     ∷ []

@@ -1,5 +1,6 @@
-//! Registers that are made for the line of argument and for the class exercise: long lines, lines
-//! that could go on by many objectors, and objections of which none settles a question early.
+//! Registers that are made for what is asked of one statement: long lines of argument, lines that
+//! could go on by many objectors, objections of which none settles a question of the class exercise
+//! early, and reasons that have every objection.
 
 use super::draft::Draft;
 use crate::random::Random;
@@ -16,6 +17,31 @@ pub fn chain(statements: usize) -> Draft {
     for objector in 1..statements {
         draft.add(objector, objector - 1);
     }
+    draft
+}
+
+/// A chain, and as many more objections as there may be: of those that stand latest to those that
+/// fall early. They fell later than need be and change no length, so that the reason for the first
+/// has every objection, and nearly all of them have the greatest lengths.
+pub fn tower(statements: usize) -> Draft {
+    let mut draft = chain(statements);
+    let falls = |place: &usize| (statements - 1 - place) % 2 == 1;
+    for objector in (0..statements).filter(|place| !falls(place)) {
+        for target in (objector + 2..statements).rev().filter(falls) {
+            draft.add(objector, target);
+        }
+    }
+    draft
+}
+
+/// Each statement objects to the next and the last to the first, and there are as many more random
+/// objections as there may be. All is open, and every reason has every objection.
+pub fn circle(random: &mut Random, statements: usize) -> Draft {
+    let mut draft = draft(statements);
+    for objector in 0..statements {
+        draft.add(objector, (objector + 1) % statements);
+    }
+    draft.add_random(random, draft.space());
     draft
 }
 

@@ -12,6 +12,7 @@ pub mod handed;
 pub mod lists;
 pub mod numbers;
 pub mod page;
+pub mod reasons;
 pub mod rooms;
 pub mod shapes;
 pub mod small;

@@ -11,15 +11,16 @@ pub struct Row {
     within: &'static str,
 }
 
-pub struct Written {
+/// A register, and what is written out of its statements.
+pub struct Written<R: 'static> {
     pub name: &'static str,
     /// None for an example of 01, which is found by its name
     text: Option<&'static str>,
     /// a row for each statement, in listed order
-    pub rows: &'static [Row],
+    pub rows: &'static [R],
 }
 
-pub const WRITTEN: [Written; 16] = [
+pub const WRITTEN: [Written<Row>; 16] = [
     of_01("one read", &[row("1", "1111111")]),
     of_01("one unread", &[row("1", "0000000")]),
     of_01("one read that objects to itself", &[row("1", "0000000")]),
@@ -135,7 +136,7 @@ const fn row(line: &'static str, within: &'static str) -> Row {
     Row { line, within }
 }
 
-const fn of_01(name: &'static str, rows: &'static [Row]) -> Written {
+pub const fn of_01<R>(name: &'static str, rows: &'static [R]) -> Written<R> {
     Written {
         name,
         text: None,
@@ -143,7 +144,7 @@ const fn of_01(name: &'static str, rows: &'static [Row]) -> Written {
     }
 }
 
-const fn written(name: &'static str, text: &'static str, rows: &'static [Row]) -> Written {
+pub const fn written<R>(name: &'static str, text: &'static str, rows: &'static [R]) -> Written<R> {
     Written {
         name,
         text: Some(text),
@@ -165,7 +166,7 @@ impl Row {
     }
 }
 
-impl Written {
+impl<R> Written<R> {
     pub fn text(&self) -> Text {
         match self.text {
             Some(text) => Text::typed(text),

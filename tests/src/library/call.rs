@@ -24,6 +24,7 @@ pub struct ListCall {
     form: Form,
 }
 
+#[derive(Clone, Copy)]
 pub struct TextCall {
     pub name: &'static str,
     /// the number by which caller.c knows it
@@ -42,8 +43,10 @@ pub const LIST_CALLS: [ListCall; 5] = [
 pub const TEXT_CALLS: [TextCall; 3] = [
     text_call("text_labels", 20, Question::Labels),
     text_call("text_lengths", 21, Question::Lengths),
-    text_call("listing", 22, Question::Listing),
+    LISTING,
 ];
+
+pub const LISTING: TextCall = text_call("listing", 22, Question::Listing);
 
 const fn list_call(name: &'static str, number: u32, form: Form, question: Question) -> ListCall {
     ListCall {
@@ -68,7 +71,7 @@ pub fn room_widths(question: Question) -> &'static [usize] {
         Question::Labels => &[1],
         Question::Lengths => &[2],
         Question::Kinds => &[1, 2],
-        Question::Listing => &[1],
+        Question::Listing | Question::Reason { .. } => &[1],
         Question::Of(Asked::Line { .. }) => &[4],
         Question::Of(Asked::Exercise { .. }) => &[],
     }
@@ -135,6 +138,19 @@ impl ListCall {
 }
 
 impl TextCall {
+    /// Every call on a text; those that ask of one statement ask of the one with the greatest length.
+    pub fn every(expected: &Expected) -> Vec<Self> {
+        let asked = of_longest(expected);
+        let (statement, _) = Question::Of(asked[0]).numbers();
+        let asking = asked.map(TextCall::asking);
+        [&TEXT_CALLS[..], &asking, &[TextCall::reason(statement)]].concat()
+    }
+
+    /// The call for the reason for the statement with this number.
+    pub fn reason(statement: u32) -> Self {
+        text_call("reason", 25, Question::Reason { statement })
+    }
+
     /// The call that asks this of one statement of a text.
     pub fn asking(asked: Asked) -> Self {
         let (name, number) = match asked {

@@ -2,7 +2,7 @@
 //! numbers of the answer, every entry of every room, the guards, and that no input has changed.
 
 use super::array::{Array, Room};
-use super::call::{of_longest, room_widths, ListCall, TextCall, LIST_CALLS, TEXT_CALLS};
+use super::call::{of_longest, room_widths, ListCall, TextCall, LIST_CALLS};
 use super::caller::{Caller, Request};
 use crate::inputs::handed::Handed;
 use crate::inputs::lists::Lists;
@@ -46,10 +46,9 @@ impl Session {
     /// Holds every call on a text, with rooms of just the answer's length.
     pub fn hold_text(&mut self, text: &Text) -> Result<(), String> {
         let expected = Expected::of_text(text);
-        let asking = of_longest(&expected).map(TextCall::asking);
-        for call in TEXT_CALLS.iter().chain(&asking) {
+        for call in TextCall::every(&expected) {
             let rooms = call.fitting(text, &expected);
-            self.hold_text_call(call, text, &expected, &rooms)?;
+            self.hold_text_call(&call, text, &expected, &rooms)?;
         }
         Ok(())
     }
@@ -75,6 +74,17 @@ impl Session {
     ) -> Result<(), String> {
         let asked = Asked::Exercise { statement, turns };
         self.hold_asked(handed, expected, asked, &[])
+    }
+
+    /// Holds the reason for one statement of a text with this room.
+    pub fn hold_reason(
+        &mut self,
+        text: &Text,
+        expected: &Expected,
+        statement: u32,
+        room: Room,
+    ) -> Result<(), String> {
+        self.hold_text_call(&TextCall::reason(statement), text, expected, &[room])
     }
 
     fn hold_asked(

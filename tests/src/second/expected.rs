@@ -5,7 +5,7 @@ use super::exercise::MOST_TURNS;
 use super::refusals::{self, Refusal, SHORT_ROOM, TOO_MANY_TURNS, UNKNOWN_STATEMENT};
 use super::register::{self, Register};
 use super::verdict::Verdict;
-use super::{argument, exercise, kinds, listing, rounds};
+use super::{argument, exercise, kinds, listing, reason, rounds};
 use crate::inputs::handed::Handed;
 use crate::inputs::lists::Lists;
 use crate::inputs::text::Text;
@@ -17,6 +17,10 @@ pub enum Question {
     Lengths,
     Kinds,
     Listing,
+    /// the reason for the statement with this number, of a text only
+    Reason {
+        statement: u32,
+    },
     Of(Asked),
 }
 
@@ -31,7 +35,9 @@ impl Question {
     /// The statement and the turns that are asked, 0 where none are.
     pub fn numbers(self) -> (u32, u32) {
         match self {
-            Question::Of(Asked::Line { statement }) => (statement, 0),
+            Question::Reason { statement } | Question::Of(Asked::Line { statement }) => {
+                (statement, 0)
+            }
             Question::Of(Asked::Exercise { statement, turns }) => (statement, turns),
             _ => (0, 0),
         }
@@ -145,10 +151,8 @@ impl Expected {
                 let (kinds, lengths) = self.kinds.iter().copied().unzip();
                 vec![kinds, lengths]
             }
-            Question::Listing => {
-                let bytes = listing::print(self).into_iter();
-                vec![bytes.map(u32::from).collect()]
-            }
+            Question::Listing => vec![bytes_of(&listing::listing(self))],
+            Question::Reason { statement } => vec![bytes_of(&self.reason(statement))],
             Question::Of(Asked::Line { statement }) => vec![self.line(statement)],
             Question::Of(Asked::Exercise { .. }) => Vec::new(),
         }
@@ -170,7 +174,8 @@ impl Expected {
 
     fn is_unknown(&self, question: Question) -> bool {
         let (statement, _) = question.numbers();
-        matches!(question, Question::Of(_)) && self.place(statement).is_none()
+        let is_asked = matches!(question, Question::Reason { .. } | Question::Of(_));
+        is_asked && self.place(statement).is_none()
     }
 
     /// The line of argument of this statement, or nothing where there is no such statement.
@@ -181,9 +186,26 @@ impl Expected {
         places.iter().map(number).collect()
     }
 
+    /// The reason for this statement as it is printed: its row, then those of the reason's
+    /// objections. Nothing where there is no such statement.
+    pub fn reason(&self, statement: u32) -> String {
+        let of_place = |place: usize| {
+            let entries = reason::entries(&self.register.lists, &self.kinds, place);
+            let objections = entries.iter().map(|entry| listing::objection(self, *entry));
+            let first = listing::statement(self, place);
+            std::iter::once(first).chain(objections).collect()
+        };
+        self.place(statement).map_or(String::new(), of_place)
+    }
+
     /// The class exercise on this statement, or 0 where there is no such statement.
     pub fn within(&self, statement: u32, turns: u32) -> u32 {
         let of_place = |place: usize| exercise::within(self.verdicts[place], turns);
         self.place(statement).map_or(0, of_place)
     }
+}
+
+/// The bytes of what is printed, as a room has them.
+fn bytes_of(printed: &str) -> Vec<u32> {
+    printed.bytes().map(u32::from).collect()
 }

@@ -2,7 +2,7 @@
 
 use super::verdict::{Verdict, NO_LENGTH};
 
-const IDLE: u32 = 0;
+pub const IDLE: u32 = 0;
 const FELLING: u32 = 1;
 const DELAYING: u32 = 2;
 const STANDOFF: u32 = 3;

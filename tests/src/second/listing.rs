@@ -1,47 +1,53 @@
-//! What the listing program prints, by 01's example and the sentences below it: the listing of a
-//! register, or the one line of a refusal.
+//! What the programs print, by 01's example and the sentences below it: the listing of a register,
+//! the reason for a statement, which has some of the same rows, or the one line of a refusal.
 
-use super::expected::Expected;
+use super::expected::{Expected, Question};
 use super::verdict::NO_LENGTH;
 
 const LABELS: [&str; 3] = ["open", "stands", "falls"];
 const KINDS: [&str; 4] = ["idle", "felling", "delaying", "standoff"];
 
-pub fn print(expected: &Expected) -> Vec<u8> {
-    let lines = match expected.refusal {
-        Some(refusal) => vec![format!("REFUSED\t{}\t{}", refusal.number, refusal.place)],
-        None => listing(expected),
-    };
-    let ended = |line: String| line + "\n";
-    lines
-        .into_iter()
-        .map(ended)
-        .collect::<String>()
-        .into_bytes()
+/// What a program prints that asks this of a text, and has space enough for the answer.
+pub fn print(expected: &Expected, question: Question) -> Vec<u8> {
+    let answer = expected.answer(question, &[usize::MAX]);
+    match answer.refusal {
+        0 => answer.rooms[0].iter().map(|byte| *byte as u8).collect(),
+        number => format!("REFUSED\t{number}\t{}\n", answer.value).into_bytes(),
+    }
 }
 
 /// The header, then the statements, then the objections.
-fn listing(expected: &Expected) -> Vec<String> {
-    let numbers = &expected.register.numbers;
-    let header = format!("REGISTER\t{}\t{}", numbers.len(), expected.kinds.len());
-    let statement = |place: usize| {
-        let verdict = expected.verdicts[place];
-        let label = LABELS[verdict.label() as usize];
-        format!("{}\t{label}\t{}", numbers[place], length(verdict.length()))
-    };
-    let objection = |((objector, target), (kind, turns)): ((usize, usize), &(u32, u32))| {
-        let (objector, target) = (numbers[objector], numbers[target]);
-        format!(
-            "{objector}\t{target}\t{}\t{}",
-            KINDS[*kind as usize],
-            length(*turns)
-        )
-    };
-    let objections = expected.register.lists.objections().zip(&expected.kinds);
+pub fn listing(expected: &Expected) -> String {
+    let (statements, objections) = (expected.register.numbers.len(), expected.kinds.len());
+    let header = format!("REGISTER\t{statements}\t{objections}\n");
+    let statements = (0..statements).map(|place| statement(expected, place));
+    let objections = (0..objections).map(|entry| objection(expected, entry));
     std::iter::once(header)
-        .chain((0..numbers.len()).map(statement))
-        .chain(objections.map(objection))
+        .chain(statements)
+        .chain(objections)
         .collect()
+}
+
+/// The row of the statement at this place.
+pub fn statement(expected: &Expected, place: usize) -> String {
+    let verdict = expected.verdicts[place];
+    let number = expected.register.numbers[place];
+    let label = LABELS[verdict.label() as usize];
+    format!("{number}\t{label}\t{}\n", length(verdict.length()))
+}
+
+/// The row of the objection at this entry.
+pub fn objection(expected: &Expected, entry: usize) -> String {
+    let (lists, numbers) = (&expected.register.lists, &expected.register.numbers);
+    let (objector, target) = (lists.objectors[entry], lists.targets[entry]);
+    let (kind, turns) = expected.kinds[entry];
+    format!(
+        "{}\t{}\t{}\t{}\n",
+        numbers[objector as usize],
+        numbers[target as usize],
+        KINDS[kind as usize],
+        length(turns)
+    )
 }
 
 fn length(length: u32) -> String {

@@ -7,6 +7,7 @@ pub mod expected;
 pub mod game;
 pub mod kinds;
 pub mod listing;
+pub mod reason;
 pub mod refusals;
 pub mod register;
 pub mod rounds;

@@ -31,7 +31,7 @@ fn read(line: &[u8]) -> Option<Line> {
 }
 
 /// A number is 1 to 8 decimal digits, the first not 0.
-fn number(field: &[u8]) -> Option<u32> {
+pub fn number(field: &[u8]) -> Option<u32> {
     let digits = field.iter().all(u8::is_ascii_digit);
     let well_formed = digits && (1..=8).contains(&field.len()) && field[0] != b'0';
     let value = |sum: u32, digit: &u8| 10 * sum + u32::from(digit - b'0');

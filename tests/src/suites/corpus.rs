@@ -2,6 +2,7 @@
 //! C; here it is the second solver. A folder without some of the refusals is not what it should be.
 
 use super::asked::{hold_exercises, hold_lines, TURNS};
+use super::reasons::hold_reasons;
 use super::Test;
 use crate::inputs::corpus::{files, kept, Words};
 use crate::inputs::handed::Handed;
@@ -13,7 +14,7 @@ use crate::library::session::Session;
 use crate::second::expected::Expected;
 use std::path::{Path, PathBuf};
 
-/// Of how many statements of each input a line and the exercise are asked.
+/// Of how many statements of each input something is asked.
 const ASKED: usize = 8;
 
 /// The refusals that must be met, and acceptance. A text of 1, 6 or 9 is too long to be kept.
@@ -67,11 +68,12 @@ fn hold_text(session: &mut Session, bytes: Vec<u8>) -> Result<u32, String> {
             session.hold_text_call(call, &text, &expected, &rooms)?;
         }
     }
-    hold_asked(session, &Handed::Text(text), &expected)?;
-    match expected.refusal {
-        None => hold_lists(session, &expected.register.lists),
-        Some(refusal) => Ok(refusal.number),
+    if let Some(refusal) = expected.refusal {
+        return Ok(refusal.number);
     }
+    hold_reasons(session, &text, &expected, &some_of(&expected))?;
+    hold_asked(session, &Handed::Text(text), &expected)?;
+    hold_lists(session, &expected.register.lists)
 }
 
 fn hold_words(session: &mut Session, bytes: Vec<u8>) -> Result<u32, String> {
@@ -96,8 +98,12 @@ fn hold_lists(session: &mut Session, lists: &Lists) -> Result<u32, String> {
 }
 
 fn hold_asked(session: &mut Session, handed: &Handed, expected: &Expected) -> Result<(), String> {
-    let numbers = expected.register.numbers.iter().copied();
-    let statements: Vec<u32> = numbers.take(ASKED).collect();
+    let statements = some_of(expected);
     hold_lines(session, handed, expected, &statements)?;
     hold_exercises(session, handed, expected, &statements, &TURNS)
+}
+
+fn some_of(expected: &Expected) -> Vec<u32> {
+    let numbers = expected.register.numbers.iter().copied();
+    numbers.take(ASKED).collect()
 }

@@ -7,7 +7,7 @@ use crate::inputs::examples::{Example, EXAMPLES};
 use crate::inputs::files::{File, FILES};
 use crate::inputs::text::Text;
 use crate::library::session::Session;
-use crate::second::expected::Expected;
+use crate::second::expected::{Expected, Question};
 use crate::second::listing;
 
 pub fn tests() -> Vec<Test> {
@@ -35,7 +35,7 @@ pub fn tests() -> Vec<Test> {
 /// Holds every call on the text, and on its register as lists.
 fn hold(session: &mut Session, text: &Text, print: &[u8]) -> Result<(), String> {
     let expected = Expected::of_text(text);
-    let printed = listing::print(&expected);
+    let printed = listing::print(&expected, Question::Listing);
     session.count();
     if printed != print {
         let (printed, print) = (printed.escape_ascii(), print.escape_ascii());

@@ -7,6 +7,7 @@ mod examples;
 mod limits;
 mod meaning;
 mod order;
+mod reasons;
 mod refusals;
 mod rooms;
 mod shapes;
@@ -47,6 +48,7 @@ pub fn all() -> Vec<Test> {
         order::tests(),
         texts::tests(),
         asked::tests(),
+        reasons::tests(),
         corpus::tests(),
     ];
     suites.into_iter().flatten().collect()

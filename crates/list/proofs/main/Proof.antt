@@ -4,8 +4,8 @@ use Prim.Native.Nat.{_≤_}
 use native.Mathlib.Omega.{arith}
 use lib.ListN.{length}
 use lib.Seq.{length-take-le}
-use Rattle.list.specs.Input.{Within}
-use Rattle.list.specs.declared.Input.{Input}
+use Rattle.stream.specs.Input.{Within}
+use Rattle.stream.specs.declared.Input.{Input}
 use borrow.Author.Needs.{needs}
 use Rattle.list.proofs.main.Statement.{statement}
 use Rattle.list.proofs.main.Tie as tie

@@ -1,13 +1,12 @@
 -- `put_objections` puts row after row. The invariant: the rows passed are in the room.
-use mathlib.Core.Path.{_≡_, refl, ap, _∙_, subst}
-use Prim.Native.Nat.{_+_, _-_, _≤_}
+use mathlib.Core.Path.{_≡_, refl, sym, _∙_, subst}
+use Prim.Native.Nat.{_-_, _≤_}
 use native.Mathlib.Omega.{arith}
 use lib.ListN.{length}
-use Rattle.listing.specs.Room.{Put, rowsTo, objectionAt}
+use Rattle.listing.specs.Room.{Fits, Put, rowsTo, objectionAt}
 use Rattle.listing.proofs.Room.{put-none}
-use Rattle.listing.proofs.Rows.{no-rows, rows-longer, rows-fewer, objections-all}
-use Rattle.listing.proofs.Puts.{row-put}
-use Rattle.listing.proofs.Told.{row-told}
+use Rattle.listing.proofs.Rows.{no-rows, objections-all}
+use Rattle.listing.proofs.Puts.{row-put, rows-fit, row-fits}
 use borrow.Author.Needs.{needs}
 use Rattle.listing.proofs.put_objections.Statement.{statement}
 use Rattle.listing.proofs.put_objections.Tie as tie
@@ -18,96 +17,30 @@ Inv-loop room₀ at numbers marks objectors targets labels lengths end₀ k₀ r
     (rowsTo k (objectionAt numbers objectors targets labels lengths)) end room
 
 abbrev μ-loop : tie.MeasureT-loop
-μ-loop room₀ at numbers marks objectors targets labels lengths end₀ k₀ room end k =
-    length objectors - k
+μ-loop room₀ at numbers marks objectors targets labels lengths end₀ k₀ room end k = length objectors - k
 
 loop-holds : tie.Need-loop-holds Inv-loop μ-loop
 loop-holds c =
     let args = c .before .before .before .before .before .before .before .args in (
       search needs,
       search needs,
-      rw (no-rows (objectionAt (args .numbers .now) (args .objectors .now) (args .targets .now)
-          (args .labels .now) (args .lengths .now))) (put-none (args .room .now) (args .at)),
+      rw (no-rows (objectionAt (args .numbers .now) (args .objectors .now) (args .targets .now) (args .labels .now)
+          (args .lengths .now))) (put-none (args .room .now) (args .at)),
     )
 
-mul-place : tie.Need-mul-place Inv-loop μ-loop
-mul-place c = search needs
-
-shared-slice-read-place : tie.Need-shared-slice-read-place Inv-loop μ-loop
-shared-slice-read-place c = search needs
-
-place-requires : tie.Need-place-requires Inv-loop μ-loop
-place-requires c κs = search needs
-
-mul-place-2 : tie.Need-mul-place-2 Inv-loop μ-loop
-mul-place-2 c = search needs
-
-shared-slice-read-place-2 : tie.Need-shared-slice-read-place-2 Inv-loop μ-loop
-shared-slice-read-place-2 c = search needs
-
-place-requires-2 : tie.Need-place-requires-2 Inv-loop μ-loop
-place-requires-2 c κs = search needs
-
-kind-at-requires : tie.Need-kind-at-requires Inv-loop μ-loop
-kind-at-requires c κs =
-    let pre = c .before .before .before .before .before .before .before .before .before .before .before .before .before .pre in (
-      pre .0 .handed,
-      (
-        (pre .0 .labels-room, pre .0 .lengths-room, c .before .before .before .before .loop-test .taken),
-        pre .0 .labelled,
-      ),
-    )
-
-mul-put-objection : tie.Need-mul-put-objection Inv-loop μ-loop
-mul-put-objection c =
-    let pre = c .before .before .before .before .before .before .before .before .before .before .before .before .before .before .before .pre in
-    let loop = c .before .before .before .before .before .before .before .loop in
-    let loop-test = c .before .before .before .before .before .before .loop-test in
-    omega (arith, pre .0 .handed .order .objector (loop .k) (loop-test .taken))
-
-shared-slice-read-put-objection : tie.Need-shared-slice-read-put-objection Inv-loop μ-loop
-shared-slice-read-put-objection c =
-    let pre = c .before .before .before .before .before .before .before .before .before .before .before .before .before .before .before .before .pre in
-    let loop = c .before .before .before .before .before .before .before .before .loop in
-    let loop-test = c .before .before .before .before .before .before .before .loop-test in
-    omega (arith, pre .0 .handed .order .objector (loop .k) (loop-test .taken))
-
-mul-put-objection-2 : tie.Need-mul-put-objection-2 Inv-loop μ-loop
-mul-put-objection-2 c =
-    let pre = c .before .before .before .before .before .before .before .before .before .before .before .before .before .before .before .before .pre in
-    let loop = c .before .before .before .before .before .before .before .before .loop in
-    let loop-test = c .before .before .before .before .before .before .before .loop-test in
-    omega (arith, pre .0 .handed .order .target (loop .k) (loop-test .taken))
-
-shared-slice-read-put-objection-2 : tie.Need-shared-slice-read-put-objection-2 Inv-loop μ-loop
-shared-slice-read-put-objection-2 c =
-    let pre = c .before .before .before .before .before .before .before .before .before .before .before .before .before .before .before .before .before .pre in
-    let loop = c .before .before .before .before .before .before .before .before .before .loop in
-    let loop-test = c .before .before .before .before .before .before .before .before .loop-test in
-    omega (arith, pre .0 .handed .order .target (loop .k) (loop-test .taken))
-
-put-objection-requires : tie.Need-put-objection-requires Inv-loop μ-loop
-put-objection-requires c κs =
-    let args = c .before .before .before .before .before .before .before .before .before .before .before .before .before .before .before .before .before .args in
-    let pre = c .before .before .before .before .before .before .before .before .before .before .before .before .before .before .before .before .before .pre in
-    let loop = c .before .before .before .before .before .before .before .before .before .loop in
-    let loop-test = c .before .before .before .before .before .before .before .before .loop-test in
-    let place = c .before .before .before .before .before .before .place in
-    let place2 = c .before .before .before .before .place2 in
-    let kind-at = c .before .before .before .kind-at in
-    let numbers = args .numbers .now in
-    let objectors = args .objectors .now in
-    let targets = args .targets .now in
-    let labels = args .labels .now in
-    let lengths = args .lengths .now in
-    omega (
-      arith,
-      loop .inv .2 .ends,
-      rows-longer (objectionAt numbers objectors targets labels lengths) (loop .k),
-      rows-fewer (objectionAt numbers objectors targets labels lengths) (loop .k + 1) (length objectors) (omega arith),
-      ap length (objections-all numbers labels lengths objectors targets (length objectors) refl),
-      ap length (row-told _ _ _ _ _ _ (pre .0) (loop .k) (place .result) (place2 .result) (kind-at .result) (loop-test .taken)
-          (place .ensures) (place2 .ensures) (kind-at .ensures)),
+put-entry-requires : tie.Need-put-entry-requires Inv-loop μ-loop
+put-entry-requires c κs =
+    let pre = c .before .before .before .before .before .before .before .before .before .before .pre in
+    let args = c .before .before .before .before .before .before .before .before .before .before .args in
+    let loop = c .before .before .loop in (
+      (pre .0, c .before .loop-test .taken),
+      row-fits (args .room .now) (args .at) (objectionAt (args .numbers .now) (args .objectors .now) (args .targets .now)
+          (args .labels .now) (args .lengths .now))
+          (loop .k) (length (args .objectors .now)) (c .before .loop-test .taken)
+          (subst (Fits (args .room .now) (args .at)) (sym (objections-all (args .numbers .now) (args .labels .now)
+          (args .lengths .now)
+          (args .objectors .now) (args .targets .now) (length (args .objectors .now)) refl)) (pre .1))
+          (loop .inv .2) (loop .inv .1),
     )
 
 add-k : tie.Need-add-k Inv-loop μ-loop
@@ -118,31 +51,20 @@ loop-less c = search needs
 
 loop-again : tie.Need-loop-again Inv-loop μ-loop
 loop-again c =
-    let args = c .before .before .before .before .before .before .before .before .before .before .before .before .before .before .before .before .before .before .before .before .args in
-    let pre = c .before .before .before .before .before .before .before .before .before .before .before .before .before .before .before .before .before .before .before .before .pre in
-    let loop = c .before .before .before .before .before .before .before .before .before .before .before .before .loop in
-    let loop-test = c .before .before .before .before .before .before .before .before .before .before .before .loop-test in
-    let place = c .before .before .before .before .before .before .before .before .before .place in
-    let place2 = c .before .before .before .before .before .before .before .place2 in
-    let kind-at = c .before .before .before .before .before .before .kind-at in
-    let put-objection = c .before .before .put-objection in
-    let numbers = args .numbers .now in
-    let objectors = args .objectors .now in
-    let targets = args .targets .now in
-    let labels = args .labels .now in
-    let lengths = args .lengths .now in (
+    let pre = c .before .before .before .before .before .before .before .before .before .before .before .before .before .pre in
+    let args = c .before .before .before .before .before .before .before .before .before .before .before .before .before .args in
+    let loop = c .before .before .before .before .before .loop in (
       search needs,
-      put-objection .kept .0 ∙ loop .inv .1,
-      row-put (args .room .now) (args .at)
-          (objectionAt numbers objectors targets labels lengths) (loop .k)
-          (omega (
-            arith,
-            rows-fewer (objectionAt numbers objectors targets labels lengths) (loop .k + 1) (length objectors)
-                (omega arith),
-            ap length (objections-all numbers labels lengths objectors targets (length objectors) refl),
-          ))
-          (loop .inv .2) (row-told _ _ _ _ _ _ (pre .0) (loop .k) (place .result) (place2 .result) (kind-at .result)
-          (loop-test .taken) (place .ensures) (place2 .ensures) (kind-at .ensures)) (put-objection .ensures),
+      c .before .before .put-entry .kept .0 ∙ loop .inv .1,
+      row-put (args .room .now) (args .at) (objectionAt (args .numbers .now) (args .objectors .now) (args .targets .now)
+          (args .labels .now) (args .lengths .now))
+          (loop .k) (rows-fit (args .room .now) (args .at) (objectionAt (args .numbers .now) (args .objectors .now)
+          (args .targets .now) (args .labels .now) (args .lengths .now))
+          (loop .k) (length (args .objectors .now)) (c .before .before .before .before .loop-test .taken)
+          (subst (Fits (args .room .now) (args .at)) (sym (objections-all (args .numbers .now) (args .labels .now)
+          (args .lengths .now)
+          (args .objectors .now) (args .targets .now) (length (args .objectors .now)) refl)) (pre .1)))
+          (loop .inv .2) refl (c .before .before .put-entry .ensures),
     )
 
 same-length : tie.Need-same-length Inv-loop μ-loop
@@ -162,18 +84,7 @@ put-objections-spec =
     Inv-loop
     μ-loop
     loop-holds
-    mul-place
-    shared-slice-read-place
-    place-requires
-    mul-place-2
-    shared-slice-read-place-2
-    place-requires-2
-    kind-at-requires
-    mul-put-objection
-    shared-slice-read-put-objection
-    mul-put-objection-2
-    shared-slice-read-put-objection-2
-    put-objection-requires
+    put-entry-requires
     add-k
     loop-less
     loop-again

@@ -1,8 +1,8 @@
 -- `write_line` refuses in 01's order; the line is written by places, and then told by numbers.
 use mathlib.Core.Path.{refl}
 use native.Mathlib.Omega.{arith}
-use Rattle.solved.proofs.Asked.{counted, unlisted}
-use Rattle.on_text.proofs.Asking.{line-few, line-short, places-listed, line-given, ready-settled}
+use Rattle.solved.proofs.Asked.{counted, unlisted, ready-settled}
+use Rattle.on_text.proofs.Asking.{line-few, line-short, places-listed, line-given}
 use borrow.Author.Needs.{needs}
 use Rattle.on_text.proofs.write_line.Statement.{statement}
 use Rattle.on_text.proofs.write_line.Tie as tie

@@ -10,14 +10,14 @@ use crate::second::exercise::MOST_TURNS;
 use crate::second::expected::Expected;
 
 pub fn tests() -> Vec<Test> {
-    let test = |written: &'static Written| {
+    let test = |written: &'static Written<Row>| {
         let name = format!("line and exercise, written out: {}", written.name);
         Test::new(name, move |session| hold(session, written))
     };
     WRITTEN.iter().map(test).collect()
 }
 
-fn hold(session: &mut Session, written: &Written) -> Result<(), String> {
+fn hold(session: &mut Session, written: &Written<Row>) -> Result<(), String> {
     let text = Handed::Text(written.text());
     let expected = Expected::of(&text);
     let lists = Handed::Lists(expected.register.lists.clone());

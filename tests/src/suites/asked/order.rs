@@ -41,6 +41,7 @@ fn of_texts(session: &mut Session) -> Result<(), String> {
         for _ in 0..3 {
             let text = whole(set, &faulty_lines(&mut random, set));
             let known = first_number(&text);
+            hold_reasons(session, &text, refusal, known)?;
             hold_faults(session, &Handed::Text(text), refusal, known)?;
         }
     }
@@ -67,14 +68,32 @@ fn hold_faults(
     let expected = Expected::of(handed);
     for (statement, unknown) in [(known, 0), (UNKNOWN, 14)] {
         for (turns, too_many) in [(6, 0), (7, 15), (u32::MAX, 15)] {
-            let asked = Asked::Exercise { statement, turns };
+            let asked = Question::Of(Asked::Exercise { statement, turns });
             refused_as(&expected, asked, &[], [refusal, unknown, too_many])?;
             session.hold_exercise(handed, &expected, statement, turns)?;
         }
         for (room, short) in [(Room::Of(1_024), 0), (Room::Of(0), 10), (Room::Null, 10)] {
-            let asked = Asked::Line { statement };
+            let asked = Question::Of(Asked::Line { statement });
             refused_as(&expected, asked, &[room], [refusal, unknown, short])?;
             session.hold_line(handed, &expected, statement, room)?;
+        }
+    }
+    Ok(())
+}
+
+/// The same for the reason, which is asked of texts only.
+fn hold_reasons(
+    session: &mut Session,
+    text: &Text,
+    refusal: u32,
+    known: u32,
+) -> Result<(), String> {
+    let expected = Expected::of_text(text);
+    for (statement, unknown) in [(known, 0), (0, 14), (100_000_000, 14), (UNKNOWN, 14)] {
+        for (room, short) in [(Room::Of(131_072), 0), (Room::Of(3), 10), (Room::Null, 10)] {
+            let asked = Question::Reason { statement };
+            refused_as(&expected, asked, &[room], [refusal, unknown, short])?;
+            session.hold_reason(text, &expected, statement, room)?;
         }
     }
     Ok(())
@@ -83,12 +102,12 @@ fn hold_faults(
 /// The second solver must have come to the first of these refusals that is not 0, or to 0.
 fn refused_as(
     expected: &Expected,
-    asked: Asked,
+    asked: Question,
     rooms: &[Room],
     refusals: [u32; 3],
 ) -> Result<(), String> {
     let lengths: Vec<usize> = rooms.iter().map(|room| room.length()).collect();
-    let answered = expected.answer(Question::Of(asked), &lengths).refusal;
+    let answered = expected.answer(asked, &lengths).refusal;
     let first = refusals.into_iter().find(|refusal| *refusal > 0);
     if answered == first.unwrap_or(0) {
         return Ok(());

@@ -60,7 +60,7 @@ fn sound(random: &mut Random, statements: usize) -> Lists {
     draft.mixed(random)
 }
 
-/// Holds the line and the exercise; the second solver must not know the statement.
+/// Holds what is asked of one statement; the second solver must not know it.
 fn hold_unknown(session: &mut Session, handed: &Handed, statement: u32) -> Result<(), String> {
     let expected = Expected::of(handed);
     if expected.register.numbers.contains(&statement) {
@@ -68,6 +68,9 @@ fn hold_unknown(session: &mut Session, handed: &Handed, statement: u32) -> Resul
     }
     for room in [Room::Null, Room::Of(0), Room::Of(1), Room::Of(7)] {
         session.hold_line(handed, &expected, statement, room)?;
+        if let Handed::Text(text) = handed {
+            session.hold_reason(text, &expected, statement, room)?;
+        }
     }
     for turns in [0, 1, 6, 7, u32::MAX] {
         session.hold_exercise(handed, &expected, statement, turns)?;

@@ -6,7 +6,7 @@ use crate::inputs::damage::damaged;
 use crate::inputs::page::Page;
 use crate::inputs::shapes::SHAPES;
 use crate::inputs::text::Text;
-use crate::library::call::{of_longest, TextCall, TEXT_CALLS};
+use crate::library::call::TextCall;
 use crate::library::session::Session;
 use crate::random::Random;
 use crate::second::expected::Expected;
@@ -82,8 +82,7 @@ fn hold(session: &mut Session, size: &Size) -> Result<(), String> {
 /// answer. Answers the refusal of the text, or 0.
 fn hold_text(session: &mut Session, random: &mut Random, text: &Text) -> Result<u32, String> {
     let expected = Expected::of_text(text);
-    let asking = of_longest(&expected).map(TextCall::asking);
-    let mut calls: Vec<&TextCall> = TEXT_CALLS.iter().chain(&asking).collect();
+    let mut calls = TextCall::every(&expected);
     random.shuffle(&mut calls);
     for call in calls.into_iter().take(HELD) {
         let fitting = call.answer_length(text, &expected);
@@ -92,7 +91,7 @@ fn hold_text(session: &mut Session, random: &mut Random, text: &Text) -> Result<
             1 => fitting.saturating_sub(1),
             _ => fitting,
         };
-        session.hold_text_call(call, text, &expected, &call.lent(length))?;
+        session.hold_text_call(&call, text, &expected, &call.lent(length))?;
     }
     Ok(expected.refused_as().0)
 }

@@ -1,0 +1,5 @@
+pub mod Keep
+pub mod Rows
+pub mod Reasons
+pub mod Asking
+pub mod Unique

@@ -1,0 +1,226 @@
+// The reason of a statement of a register text, written into a lent room: the statement's row of the listing, then the rows of
+// the objections in its reason. Reading and labels are left to `solved`, what is in a reason to `reach`, rows to `listing`.
+use answer::Answer;
+use refusal::Refusal;
+use text::Reading;
+ghost use mathlib.Core.List.{List};
+ghost use mathlib.Core.Path.{_≡_};
+ghost use Prim.Native.Nat.{ℕ, _≤_, _<_};
+ghost use lib.ListN.{length};
+ghost use Rattle.text.specs.Register.{Register};
+ghost use Rattle.text.specs.State.{Spacious};
+ghost use Rattle.text.specs.declared.Reading.the-variants.{Whole};
+ghost use Rattle.solved.specs.Solved.{Ready, SolvedText};
+ghost use Rattle.listing.specs.Room.{Fits, Put, Lists};
+ghost use Rattle.reasons.specs.Reasons.{ReasonWritten, TextReason};
+ghost use Rattle.reasons.specs.Rows.{chosenPart, RowsWritten};
+
+// The size of the rows of the objections that have a mark.
+fn rows_size(
+    numbers: &[u32],
+    marks: &[u8],
+    objectors: &[u32],
+    targets: &[u32],
+    labels: &[u8],
+    lengths: &[u16],
+    inside: &[u8],
+) -> usize
+    requires { ⌜ Lists (now numbers) (now marks) (now objectors) (now targets) (now labels) (now lengths)
+        × (length (now objectors) ≤ length (now inside)) ⌝ }
+    ensures { λ r. ⌜ r ≡ length (chosenPart (now (numbers .entry)) (now (objectors .entry)) (now (targets .entry))
+        (now (labels .entry)) (now (lengths .entry)) (now (inside .entry))) ⌝ }
+{
+    let mut total: usize = 0;
+    let mut next = 0;
+    while next < objectors.len() {
+        let k = next;
+        next += 1;
+        if inside[k] != 0 {
+            total += listing::entry_size(numbers, marks, objectors, targets, labels, lengths, k);
+        }
+    }
+    total
+}
+
+// Puts the rows of the objections that have a mark into the room at a place, and answers the place behind them.
+fn put_rows(
+    room: &mut [u8],
+    at: usize,
+    numbers: &[u32],
+    marks: &[u8],
+    objectors: &[u32],
+    targets: &[u32],
+    labels: &[u8],
+    lengths: &[u16],
+    inside: &[u8],
+) -> usize
+    requires { ⌜ Lists (now numbers) (now marks) (now objectors) (now targets) (now labels) (now lengths)
+        × (length (now objectors) ≤ length (now inside)) ⌝ }
+    requires { ⌜ Fits (now room) at (chosenPart (now numbers) (now objectors) (now targets) (now labels) (now lengths)
+        (now inside)) ⌝ }
+    ensures { λ r. ⌜ Put (now (room .entry)) at (chosenPart (now (numbers .entry)) (now (objectors .entry)) (now (targets .entry))
+        (now (labels .entry)) (now (lengths .entry)) (now (inside .entry))) r (now (room .exit)) ⌝ }
+{
+    let mut end = at;
+    let mut next = 0;
+    while next < objectors.len() {
+        let k = next;
+        next += 1;
+        if inside[k] != 0 {
+            end = listing::put_entry(
+                room,
+                end,
+                numbers,
+                marks,
+                objectors,
+                targets,
+                labels,
+                lengths,
+                k,
+            );
+        }
+    }
+    end
+}
+
+// Writes the reason of the statement at the place x, whose objections have their marks, if there is room for all of it.
+fn write_rows(
+    numbers: &[u32],
+    marks: &[u8],
+    objectors: &[u32],
+    targets: &[u32],
+    labels: &[u8],
+    lengths: &[u16],
+    inside: &[u8],
+    x: usize,
+    room: &mut [u8],
+) -> Answer
+    requires { ⌜ Lists (now numbers) (now marks) (now objectors) (now targets) (now labels) (now lengths)
+        × (length (now objectors) ≤ length (now inside)) × (x < length (now numbers)) ⌝ }
+    ensures { λ a. ⌜ RowsWritten (now (numbers .entry)) (now (objectors .entry)) (now (targets .entry)) (now (labels .entry))
+        (now (lengths .entry)) (now (inside .entry)) x (now (room .entry)) a (now (room .exit)) ⌝ }
+{
+    let size = listing::statement_size(numbers[x], labels[x], lengths[x])
+        + rows_size(numbers, marks, objectors, targets, labels, lengths, inside);
+    if room.len() < size {
+        return Answer::Refused(Refusal::Room);
+    }
+    let end = listing::put_statement(room, 0, numbers[x], labels[x], lengths[x]);
+    put_rows(
+        room,
+        end,
+        numbers,
+        marks,
+        objectors,
+        targets,
+        labels,
+        lengths,
+        inside,
+    );
+    Answer::Given(size as u32)
+}
+
+// Writes the reason of the statement of a number in a register that is labelled.
+fn write_reason(
+    numbers: &[u32],
+    marks: &[u8],
+    objectors: &[u32],
+    targets: &[u32],
+    labels: &[u8],
+    lengths: &[u16],
+    number: u32,
+    room: &mut [u8],
+) -> Answer
+    requires { ⌜ ((R : Register) × Ready R (now numbers) (now marks) (now objectors) (now targets) (now labels) (now lengths)) ⌝ }
+    ensures { λ a. ⌜ ((R : Register) → Ready R (now (numbers .entry)) (now (marks .entry)) (now (objectors .entry))
+        (now (targets .entry)) (now (labels .entry)) (now (lengths .entry))
+        → ReasonWritten R number (now (room .entry)) a (now (room .exit))) ⌝ }
+{
+    let statements = numbers.len();
+    let x = text::find(numbers, statements, number);
+    if x >= statements {
+        return Answer::Refused(Refusal::Asked);
+    }
+    let mut inside = [0u8; 4096];
+    reach::mark(marks, objectors, targets, labels, lengths, x, &mut inside);
+    write_rows(
+        numbers,
+        marks,
+        objectors,
+        targets,
+        labels,
+        lengths,
+        &inside,
+        x,
+        room,
+    )
+}
+
+// Writes the reason of a statement among the n statements and m objections that rooms begin with.
+fn reason_rooms(
+    numbers: &[u32],
+    marks: &[u8],
+    objectors: &[u32],
+    targets: &[u32],
+    labels: &[u8],
+    lengths: &[u16],
+    n: usize,
+    m: usize,
+    number: u32,
+    room: &mut [u8],
+) -> Answer
+    requires { ⌜ Spacious (now numbers) (now marks) (now objectors) (now targets) ⌝ }
+    requires { ⌜ (1024 ≤ length (now labels)) × (1024 ≤ length (now lengths)) ⌝ }
+    requires { ⌜ ((text : List ℕ) × SolvedText text (now numbers) (now marks) (now objectors) (now targets) (now labels)
+        (now lengths) (Whole n m)) ⌝ }
+    ensures { λ a. ⌜ ((text : List ℕ) → SolvedText text (now (numbers .entry)) (now (marks .entry)) (now (objectors .entry))
+        (now (targets .entry)) (now (labels .entry)) (now (lengths .entry)) (Whole n m)
+        → TextReason text number (now (room .entry)) a (now (room .exit))) ⌝ }
+{
+    write_reason(
+        &numbers[..n],
+        &marks[..n],
+        &objectors[..m],
+        &targets[..m],
+        labels,
+        lengths,
+        number,
+        room,
+    )
+}
+
+// The reason of the statement of a number.
+pub fn text_reason(text: &[u8], number: u32, room: &mut [u8]) -> Answer
+    ensures { λ a. ⌜ TextReason (now (text .entry)) number (now (room .entry)) a (now (room .exit)) ⌝ }
+{
+    let mut numbers = [0u32; 1024];
+    let mut marks = [0u8; 1024];
+    let mut objectors = [0u32; 4096];
+    let mut targets = [0u32; 4096];
+    let mut labels = [0u8; 1024];
+    let mut lengths = [0u16; 1024];
+    let reading = solved::solve_text(
+        text,
+        &mut numbers,
+        &mut marks,
+        &mut objectors,
+        &mut targets,
+        &mut labels,
+        &mut lengths,
+    );
+    match reading {
+        Reading::Refused(refusal) => Answer::Refused(refusal),
+        Reading::Whole(n, m) => reason_rooms(
+            &numbers,
+            &marks,
+            &objectors,
+            &targets,
+            &labels,
+            &lengths,
+            n,
+            m,
+            number,
+            room,
+        ),
+    }
+}

@@ -1,0 +1,142 @@
+#!/usr/bin/env bash
+# The outside tests of the reason program: what it prints for which number, how it takes words that
+# are no number, and the trials that every program goes through. tests/run starts it, after it has
+# built the program and the second solver. The very last line is 'N passed, M failed'.
+set -u
+cd "$(dirname "$0")/.." || exit 1
+. tests/programs.sh
+. tests/tally.sh
+tried=reason
+. tests/trials.sh
+
+# words that are no number of 01, on a register where the number that they come near is issued
+no_numbers=('' 0 00 05 007 000000005 100000000 500000000 999999999 4294967301 18446744073709551621
+    +5 -5 ' 5' '5 ' $'5\t' $'5\n' $'\n5' 5.0 '5,' 5a a5 5R 0x5 5e0 5_0 /5 5: $'\xff5' $'5\xff'
+    -- - -h --help 5/6 '5 6' five)
+
+# asking WORD COMMAND..: the command, while the program is given this word
+asking() {
+    local words=("$1")
+    shift
+    "$@"
+}
+
+# numbers FILE: those of the statements, in listed order
+numbers() {
+    sed -n 's/^S\t\([0-9]*\)\t.*/\1/p' "$1"
+}
+
+# agrees_on_all FILE: what is printed for the number of each statement is what the second solver has
+agrees_on_all() {
+    local number
+    for number in $(numbers "$1"); do
+        asking "$number" agrees "$1" || return
+    done
+}
+
+# reads WORD FILE WORDS: with this word, the program makes of the text what is typed
+reads() {
+    typed "$3" >"$work/right"
+    asking "$1" prints "$work/right" <"$2"
+}
+
+# usage WORDS..: with these words nothing is printed, and one line says how the program is used
+usage() {
+    local words=("$@") status
+    ask <"$work/three" >"$work/out" 2>"$work/said"
+    status=$?
+    cat "$work/out" "$work/said"
+    [ ! -s "$work/out" ] && [ "$(wc -l <"$work/said")" -eq 1 ] &&
+        grep -q '^usage: ' "$work/said" && [ "$status" -eq 0 ]
+}
+
+in_a_pipeline() {
+    local felling
+    felling=$(asking 2001 ask <examples/quilt.txt | awk -F '\t' '$3 == "felling"' | wc -l)
+    [ "$felling" -eq "$(asking 2001 second <examples/quilt.txt | grep -c felling)" ] &&
+        [ "$felling" -gt 0 ]
+}
+
+as_in_the_tutorial() {
+    asking 2002 second <examples/deed.txt >"$work/right"
+    ./reason 2002 <examples/deed.txt | cmp - "$work/right"
+}
+
+# a number that is issued, and one that is not, and one that is none, for a text that is refused
+text_refused_first() {
+    local word
+    for word in 1 3 07; do
+        asking "$word" refuses_words "$@" || return
+    done
+}
+
+too_long_first() {
+    asking 1 far_too_long && asking 07 endless
+}
+
+sound 65535 >"$work/most"
+longest >"$work/longest"
+typed 'S 5 R\nS 6 R\nS 7 R\nO 5 6\nO 6 7\nO 7 6\n' >"$work/three"
+typed 'S 99999999 R\nO 99999999 99999999\n' >"$work/greatest"
+
+try 'stands without an objection' reads 5 "$work/three" '5 stands 0\n'
+try 'falls, by all three objections' \
+    reads 6 "$work/three" '6 falls 1\n5 6 felling 1\n6 7 delaying 2\n7 6 felling 3\n'
+try 'stands, by all three objections' \
+    reads 7 "$work/three" '7 stands 2\n5 6 felling 1\n6 7 delaying 2\n7 6 felling 3\n'
+try 'open, without the idle objection' \
+    reads 102 examples/game.txt '102 open -\n102 101 standoff -\n101 102 standoff -\n'
+try 'the greatest number' \
+    reads 99999999 "$work/greatest" '99999999 open -\n99999999 99999999 standoff -\n'
+
+mkdir -p "$work/01"
+try "01's examples are written" "$built/cargo/release/outside" examples "$work/01"
+for text in examples/*.txt "$work/01"/*.txt; do
+    name=${text##*/}
+    try "every statement of ${name%.txt}" agrees_on_all "$text"
+    try "a number that is not on ${name%.txt}" asking 12345 agrees "$text"
+done
+
+for word in "${no_numbers[@]}"; do
+    try "no number: $(printf '%q' "$word")" asking "$word" refuses 14 0 <"$work/three"
+done
+try 'a number that is not on the register' asking 8 refuses 14 0 <"$work/three"
+try 'any number, of no input' asking 5 refuses 14 0 </dev/null
+try 'no word' usage
+try 'two words' usage 5 6
+try 'two words, of which one is empty' usage 5 ''
+try 'three words' usage 5 6 7
+
+try 'a text that is not ended' text_refused_first 2 0 'S 1 R'
+try 'a spoiled line' text_refused_first 3 2 'S 1 R\nS 2\n'
+try 'a late statement' text_refused_first 4 3 'S 1 R\nO 1 1\nS 2 R\n'
+try 'a number issued twice' text_refused_first 5 2 'S 1 R\nS 1 U\n'
+try 'an unknown objector' text_refused_first 7 2 'S 1 R\nO 1 2\n'
+try 'a repeated objection' text_refused_first 8 3 'S 1 R\nO 1 1\nO 1 1\n'
+try 'a text that is too long' too_long_first
+
+try 'an input that comes byte by byte' asking 102 in_pieces examples/game.txt 1
+try 'a long input that comes in pieces' asking 101023 in_pieces "$work/longest" 4000
+try 'stopped and continued while it reads' asking 102 stopped_and_continued examples/game.txt
+try '65,535 bytes' asking 40000111 agrees "$work/most"
+try '65,535 bytes, the last one late' asking 40000111 last_byte_late "$work/most"
+try 'a reason of more than 65,536 bytes' asking 101023 agrees "$work/longest"
+try 'a reason that is taken slowly' asking 101023 slow_reader "$work/longest"
+try 'started as in the tutorial' as_in_the_tutorial
+try 'between two other programs' in_a_pipeline
+
+try 'a folder as input' asking 102 not_read <examples
+try 'no standard input' asking 102 not_read <&-
+try 'an input that is only to be written' asking 102 not_read 0>"$work/unread"
+try 'no standard error' asking 102 nobody_listens examples/game.txt
+try 'no environment' asking 102 without_environment examples/game.txt
+try 'no standard output' asking 102 output_closed examples/game.txt
+try 'no standard output for a refusal' asking 07 output_closed examples/game.txt
+try 'a full device' asking 102 output_full examples/game.txt
+try 'a full device for a long reason' asking 101023 output_full "$work/longest"
+try 'a disk that fills up' asking 101023 output_fills_up "$work/longest"
+try 'a pipe that is closed' asking 101023 pipe_closed "$work/longest"
+try 'a pipe that is closed, without the signal' asking 101023 pipe_closed_unsignalled "$work/longest"
+asking 101023 try_pieces "$work/longest"
+
+finish

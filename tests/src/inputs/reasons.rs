@@ -1,0 +1,81 @@
+//! Registers with the reason for every statement written out as it is printed: two of document 01,
+//! and some more. Tabs are shown as spaces, as they are in 01.
+
+use super::written::{of_01, written, Written};
+
+/// The reason for each statement, in listed order.
+pub type Reasons = Written<&'static str>;
+
+pub const REASONS: [Reasons; 8] = [
+    of_01(
+        "felling in three turns",
+        &[
+            "5 stands 0\n",
+            "6 falls 1\n5 6 felling 1\n6 7 delaying 2\n7 6 felling 3\n",
+            "7 stands 2\n5 6 felling 1\n6 7 delaying 2\n7 6 felling 3\n",
+        ],
+    ),
+    of_01(
+        "the listing",
+        &[
+            "101 open -\n102 101 standoff -\n101 102 standoff -\n",
+            "102 open -\n102 101 standoff -\n101 102 standoff -\n",
+            "103 falls 1\n104 103 felling 1\n",
+            "104 stands 0\n",
+        ],
+    ),
+    of_01(
+        "a chain down to an unread one",
+        &[
+            "1 falls 3\n4 3 felling 1\n3 2 delaying 2\n2 1 felling 3\n",
+            "2 stands 2\n4 3 felling 1\n3 2 delaying 2\n",
+            "3 falls 1\n4 3 felling 1\n",
+            "4 stands 0\n",
+        ],
+    ),
+    of_01(
+        "one read that objects to itself",
+        &["1 open -\n1 1 standoff -\n"],
+    ),
+    written(
+        "what an idle objection leads to is left out",
+        "S 1 R\nS 2 R\nS 3 R\nS 4 R\nO 2 1\nO 3 1\nO 4 3\nO 2 3\n",
+        &[
+            "1 falls 1\n2 1 felling 1\n",
+            "2 stands 0\n",
+            "3 falls 1\n4 3 felling 1\n2 3 felling 1\n",
+            "4 stands 0\n",
+        ],
+    ),
+    written(
+        "every delaying objection, and the late felling ones",
+        "S 1 R\nS 2 R\nS 3 R\nS 4 R\nS 5 R\nO 4 3\nO 5 4\nO 3 1\nO 2 1\nO 5 2\nO 3 2\n",
+        &[
+            "1 falls 3\n4 3 delaying 2\n5 4 felling 1\n3 1 felling 3\n",
+            "2 falls 1\n4 3 delaying 2\n5 4 felling 1\n5 2 felling 1\n3 2 felling 3\n",
+            "3 stands 2\n4 3 delaying 2\n5 4 felling 1\n",
+            "4 falls 1\n5 4 felling 1\n",
+            "5 stands 0\n",
+        ],
+    ),
+    written(
+        "an open statement, and a falling one against it",
+        "S 30 U\nS 20 R\nS 10 R\nS 9 R\nO 30 20\nO 10 20\nO 9 10\nO 20 10\nO 20 20\n",
+        &[
+            "30 open -\n",
+            "20 open -\n30 20 standoff -\n20 20 standoff -\n",
+            "10 falls 1\n9 10 felling 1\n",
+            "9 stands 0\n",
+        ],
+    ),
+    written(
+        "in the order of the lines, which is not that of the walk",
+        "S 4 R\nS 3 R\nS 2 R\nS 1 R\nO 1 2\nO 3 4\nO 2 3\n",
+        &[
+            "4 falls 3\n1 2 felling 1\n3 4 felling 3\n2 3 delaying 2\n",
+            "3 stands 2\n1 2 felling 1\n2 3 delaying 2\n",
+            "2 falls 1\n1 2 felling 1\n",
+            "1 stands 0\n",
+        ],
+    ),
+];

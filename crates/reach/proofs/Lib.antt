@@ -1,2 +1,2 @@
-pub mod Marks
+pub mod Ticks
 pub mod Steps

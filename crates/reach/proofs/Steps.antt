@@ -13,13 +13,13 @@ use Rattle.game.proofs.Reason.{reaches-listed}
 use Rattle.chain.specs.Chained.{Walk, Chains}
 use Rattle.chain.proofs.Links.{stored, split}
 use Rattle.chain.proofs.Walks.{walk-begins, walk-entry, walk-more, walk-ends, walk-map}
-use Rattle.reach.specs.Reach.{Decides, Marked, Reached, Queued, Grown}
-use Rattle.reach.proofs.Marks.{grown-none, grown-more}
+use Rattle.reach.specs.Reach.{Decides, Ticked, Reached, Queued, Grown}
+use Rattle.reach.proofs.Ticks.{grown-none, grown-more}
 
--- an objection that was looked at: if it belongs to the reasons that come to x, its objector has a mark
+-- an objection that was looked at: if it belongs to the reasons that come to x, its objector has a tick
 abbrev pub Seen : (marks objectors targets : List ℕ) → ℕ → List ℕ → ℕ → Type 0
 Seen marks objectors targets x room e =
-    Belongs (bookOf marks objectors targets) (getD objectors e 0) x → Marked room (getD objectors e 0)
+    Belongs (bookOf marks objectors targets) (getD objectors e 0) x → Ticked room (getD objectors e 0)
 
 -- on the way along the chain of x, at the link c
 pub record Following (marks objectors targets : List ℕ) (n x tail : ℕ) (room₀ queue₀ : List ℕ) (end : ℕ) (room queue : List ℕ)
@@ -55,7 +55,7 @@ module _ (marks objectors targets head next : List ℕ) (chains : Chains marks t
     }
 
     pub follow-comes : (y end′ : ℕ) (room′ queue′ : List ℕ) → Belongs B (getD objectors (c - 1) 0) (getD targets (c - 1) 0)
-        → y ≡ getD objectors (c - 1) 0 → Grown (λ z. z ≡ y) n end room queue end′ room′ queue′ → Marked room′ y
+        → y ≡ getD objectors (c - 1) 0 → Grown (λ z. z ≡ y) n end room queue end′ room′ queue′ → Ticked room′ y
         → At end′ room′ queue′ d
     follow-comes y end′ room′ queue′ b p g m = record {
       grown =
@@ -65,30 +65,30 @@ module _ (marks objectors targets head next : List ℕ) (chains : Chains marks t
       walk =
           walk-more targets head next (chains .chained) x (Seen marks objectors targets x room′) c
           (walk-map targets x (Seen marks objectors targets x room) (Seen marks objectors targets x room′)
-          (λ k s h. g .kept (getD objectors k 0) (s h)) c (f .walk)) t d e (λ h. subst (Marked room′) p m);
+          (λ k s h. g .kept (getD objectors k 0) (s h)) c (f .walk)) t d e (λ h. subst (Ticked room′) p m);
     }
 
   pub follow-ends : length targets ≡ length objectors → (end : ℕ) (room queue : List ℕ) (c : ℕ) → At end room queue c → c ≡ 0
-      → (y : ℕ) → Belongs B y x → Marked room y
+      → (y : ℕ) → Belongs B y x → Ticked room y
   follow-ends paired end room queue c f z y b =
       let (l, (k, (h, p, q))) = objects-entry marks objectors targets y x .0 (b .of-kind .objects) in
-      subst (Marked room) p (walk-ends targets head next (chains .chained) x (Seen marks objectors targets x room) c (f .walk) z k
+      subst (Ticked room) p (walk-ends targets head next (chains .chained) x (Seen marks objectors targets x room) c (f .walk) z k
       (omega arith) q (subst (λ u. Belongs B u x) (sym p) b))
 
 -- on the way along the queue: the statements before `at` are followed
 pub record Spreading (marks objectors targets : List ℕ) (n a tail : ℕ) (room queue : List ℕ) (at : ℕ) : Type 0 where
   pub queued : Queued n tail room queue
-  pub sound : (x : ℕ) → Marked room x → Reaches (bookOf marks objectors targets) a x
-  pub first : Marked room a
+  pub sound : (x : ℕ) → Ticked room x → Reaches (bookOf marks objectors targets) a x
+  pub first : Ticked room a
   pub behind : at ≤ tail
-  pub followed : (i : ℕ) → i < at → (y : ℕ) → Belongs (bookOf marks objectors targets) y (getD queue i 0) → Marked room y
+  pub followed : (i : ℕ) → i < at → (y : ℕ) → Belongs (bookOf marks objectors targets) y (getD queue i 0) → Ticked room y
 
 module _ (marks objectors targets : List ℕ) (n a : ℕ) where
   abbrev book : Book
   book = bookOf marks objectors targets
 
   pub spread-begins : (room₀ queue₀ : List ℕ) (tail : ℕ) (room queue : List ℕ) → ((x : ℕ) → getD room₀ x 0 ≡ 0)
-      → Grown (λ x. x ≡ a) n 0 room₀ queue₀ tail room queue → Marked room a
+      → Grown (λ x. x ≡ a) n 0 room₀ queue₀ tail room queue → Ticked room a
       → Spreading marks objectors targets n a tail room queue 0
   spread-begins room₀ queue₀ tail room queue z g m = record {
     queued = g .queued;
@@ -101,7 +101,7 @@ module _ (marks objectors targets : List ℕ) (n a : ℕ) where
   module _ (tail : ℕ) (room queue : List ℕ) (at : ℕ) (s : Spreading marks objectors targets n a tail room queue at) where
     pub spread-more : (x tail′ : ℕ) (room′ queue′ : List ℕ) → at < tail → x ≡ getD queue at 0
         → Grown (λ y. Belongs book y x) n tail room queue tail′ room′ queue′
-        → ((y : ℕ) → Belongs book y x → Marked room′ y) → Spreading marks objectors targets n a tail′ room′ queue′ (at + 1)
+        → ((y : ℕ) → Belongs book y x → Ticked room′ y) → Spreading marks objectors targets n a tail′ room′ queue′ (at + 1)
     spread-more x tail′ room′ queue′ l e g f = record {
       queued = g .queued;
       sound = λ z m. ⊎-elim (s .sound z) (λ b. onward come b) (g .new z m);
@@ -111,9 +111,9 @@ module _ (marks objectors targets : List ℕ) (n a : ℕ) where
     }
       where
         come : Reaches book a x
-        come = s .sound x (subst (Marked room) (sym e) (s .queued .places at l .1))
+        come = s .sound x (subst (Ticked room) (sym e) (s .queued .places at l .1))
 
-        old : (i y : ℕ) → Belongs book y (getD queue′ i 0) → i < at → Marked room′ y
+        old : (i y : ℕ) → Belongs book y (getD queue′ i 0) → i < at → Ticked room′ y
         old i y b h = g .kept y (s .followed i h y (subst (Belongs book y) (g .before i (omega arith)) b))
 
         here : (i y : ℕ) → i ≡ at → Belongs book y (getD queue′ i 0) → Belongs book y x
@@ -128,13 +128,13 @@ module _ (marks objectors targets : List ℕ) (n a : ℕ) where
     pub spread-ends : tail ≤ at → Reached book a room
     spread-ends h x l = (s .sound x, met x)
       where
-        met : (z : ℕ) → Reaches book a z → Marked room z
+        met : (z : ℕ) → Reaches book a z → Ticked room z
         met z asked = s .first
         met z (onward {x} r b) =
             let (i, l, e) = s .queued .each x (met x r) in
             s .followed i (omega arith) z (subst (Belongs book z) (sym e) b)
 
--- whether an objection is in the reason, by the mark of its target
+-- whether an objection is in the reason, by the tick of its target
 module _ (marks objectors targets : List ℕ) (order : InOrder marks objectors targets) (k : ℕ) (l : k < length objectors) (a : ℕ)
     (room : List ℕ) (r : Reached (bookOf marks objectors targets) a room) where
   listed : Listed (bookOf marks objectors targets) (getD targets k 0)
@@ -145,17 +145,17 @@ module _ (marks objectors targets : List ℕ) (order : InOrder marks objectors t
       → ¬ InReason (bookOf marks objectors targets) a (getD objectors k 0) (getD targets k 0)
   apart x e z i = r (getD targets k 0) listed .1 (i .0) (subst (λ u. getD room u 0 ≡ 0) e z)
 
-  pub within : (x : ℕ) → x ≡ getD targets k 0 → Marked room x → (b : Bool)
+  pub within : (x : ℕ) → x ≡ getD targets k 0 → Ticked room x → (b : Bool)
       → Decides (Belongs (bookOf marks objectors targets) (getD objectors k 0) (getD targets k 0)) b
       → Decides (InReason (bookOf marks objectors targets) a (getD objectors k 0) (getD targets k 0)) b
-  within x e m true d = (r (getD targets k 0) listed .0 (subst (Marked room) e m), d)
+  within x e m true d = (r (getD targets k 0) listed .0 (subst (Ticked room) e m), d)
   within x e m false d = λ i. d (i .1)
 
 -- the objections before k are looked at
 abbrev pub Choosing : (marks objectors targets : List ℕ) → ℕ → List ℕ → ℕ → Type 0
 Choosing marks objectors targets a inside k =
     ((j : ℕ) → j < k
-    → Marked inside j ↔ InReason (bookOf marks objectors targets) a (getD objectors j 0) (getD targets j 0))
+    → Ticked inside j ↔ InReason (bookOf marks objectors targets) a (getD objectors j 0) (getD targets j 0))
     × ((j : ℕ) → k ≤ j → getD inside j 0 ≡ 0)
 
 module _ (marks objectors targets : List ℕ) (a : ℕ) (inside : List ℕ) (k : ℕ)
@@ -165,7 +165,7 @@ module _ (marks objectors targets : List ℕ) (a : ℕ) (inside : List ℕ) (k :
   chosen-in l i = (λ j h. ⊎-elim (old j) (here j) (split h), beyond)
     where
       Right : ℕ → List ℕ → Type 0
-      Right j room = Marked room j ↔ InReason (bookOf marks objectors targets) a (getD objectors j 0) (getD targets j 0)
+      Right j room = Ticked room j ↔ InReason (bookOf marks objectors targets) a (getD objectors j 0) (getD targets j 0)
 
       old : (j : ℕ) → j < k → Right j (set inside k 1)
       old j h = ⊎-elim (λ q. absurd (omega (arith, q .0))) (λ q. (
@@ -188,7 +188,7 @@ module _ (marks objectors targets : List ℕ) (a : ℕ) (inside : List ℕ) (k :
   chosen-out n = (λ j h. ⊎-elim (c .0 j) (here j) (split h), λ j h. c .1 j (omega arith))
     where
       here : (j : ℕ) → j ≡ k
-          → Marked inside j ↔ InReason (bookOf marks objectors targets) a (getD objectors j 0) (getD targets j 0)
+          → Ticked inside j ↔ InReason (bookOf marks objectors targets) a (getD objectors j 0) (getD targets j 0)
       here j e = (
         λ m. absurd (m (c .1 j (omega arith))),
         λ r. absurd (n (subst (λ u. InReason (bookOf marks objectors targets) a (getD objectors u 0) (getD targets u 0)) e r)),

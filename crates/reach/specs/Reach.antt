@@ -14,33 +14,33 @@ abbrev pub Decides : Type 0 → Bool → Type 0
 Decides P true = P
 Decides P false = ¬ P
 
--- the place x has a mark in the room
-abbrev pub Marked : List ℕ → ℕ → Type 0
-Marked room x = getD room x 0 ≡ 0 → ⊥
+-- the place x has a tick in the room
+abbrev pub Ticked : List ℕ → ℕ → Type 0
+Ticked room x = getD room x 0 ≡ 0 → ⊥
 
--- exactly the objections in the reason for a have a mark
+-- exactly the objections in the reason for a have a tick
 abbrev pub Chosen : (marks objectors targets : List ℕ) → ℕ → List ℕ → Type 0
 Chosen marks objectors targets a inside =
     (k : ℕ) → k < length objectors
-    → Marked inside k ↔ InReason (bookOf marks objectors targets) a (getD objectors k 0) (getD targets k 0)
+    → Ticked inside k ↔ InReason (bookOf marks objectors targets) a (getD objectors k 0) (getD targets k 0)
 
--- The rest is not for callers. Exactly the statements that the reason for a comes to have a mark.
+-- The rest is not for callers. Exactly the statements that the reason for a comes to have a tick.
 abbrev pub Reached : Book → ℕ → List ℕ → Type 0
-Reached B a room = (x : ℕ) → Listed B x → Marked room x ↔ Reaches B a x
+Reached B a room = (x : ℕ) → Listed B x → Ticked room x ↔ Reaches B a x
 
--- the queue's first t places are those below n that have a mark, each of them once
+-- the queue's first t places are those below n that have a tick, each of them once
 pub record Queued (n t : ℕ) (room queue : List ℕ) : Type 0 where
   pub same : length room ≡ n
   pub space : n ≤ length queue
   pub full : t + zeros room ≡ n
-  pub places : (i : ℕ) → i < t → (getD queue i 0 < n) × Marked room (getD queue i 0)
-  pub each : (x : ℕ) → Marked room x → (i : ℕ) × (i < t) × (getD queue i 0 ≡ x)
+  pub places : (i : ℕ) → i < t → (getD queue i 0 < n) × Ticked room (getD queue i 0)
+  pub each : (x : ℕ) → Ticked room x → (i : ℕ) × (i < t) × (getD queue i 0 ≡ x)
 
--- Marks are added, of statements of which P holds: what had one has it still, and the queue goes on from t to r.
+-- Ticks are added, of statements of which P holds: what had one has it still, and the queue goes on from t to r.
 pub record Grown (P : ℕ → Type 0) (n t : ℕ) (room queue : List ℕ) (r : ℕ) (room′ queue′ : List ℕ) : Type 0 where
   pub queued : Queued n r room′ queue′
-  pub kept : (x : ℕ) → Marked room x → Marked room′ x
-  pub new : (x : ℕ) → Marked room′ x → Marked room x ⊎ P x
+  pub kept : (x : ℕ) → Ticked room x → Ticked room′ x
+  pub new : (x : ℕ) → Ticked room′ x → Ticked room x ⊎ P x
   pub longer : t ≤ r
   pub as-long : length queue′ ≡ length queue
   pub before : (i : ℕ) → i < t → getD queue′ i 0 ≡ getD queue i 0

@@ -12,7 +12,7 @@ ghost use Rattle.game.specs.Book.{bookOf};
 ghost use Rattle.game.specs.Reason.{Belongs, InReason};
 ghost use Rattle.chain.specs.Chained.{Chains};
 ghost use Rattle.label.specs.Labelled.{Settled};
-ghost use Rattle.reach.specs.Reach.{Decides, Marked, Chosen, Reached, Queued, Grown};
+ghost use Rattle.reach.specs.Reach.{Decides, Ticked, Chosen, Reached, Queued, Grown};
 
 // Whether the objection k belongs to the reasons that come to its target.
 fn belongs(
@@ -36,12 +36,12 @@ fn belongs(
     }
 }
 
-// Comes to the statement y: it gets a mark and is queued behind the others, unless it has its mark.
+// Comes to the statement y: it gets a tick and is queued behind the others, unless it has its tick.
 fn come_to(y: usize, room: &mut [u8], queue: &mut [u16], tail: usize) -> usize
     requires { ⌜ Queued (length (now room)) tail (now room) (now queue) × (y < length (now room))
         × (length (now room) < 65536) ⌝ }
     ensures { λ r. ⌜ Grown (λ x. x ≡ y) (length (now (room .entry))) tail (now (room .entry)) (now (queue .entry)) r
-        (now (room .exit)) (now (queue .exit)) × Marked (now (room .exit)) y ⌝ }
+        (now (room .exit)) (now (queue .exit)) × Ticked (now (room .exit)) y ⌝ }
 {
     if room[y] != 0 {
         return tail;
@@ -72,7 +72,7 @@ fn follow(
     ensures { λ r. ⌜ Grown (λ y. Belongs (bookOf (now (marks .entry)) (now (objectors .entry)) (now (targets .entry))) y x)
         (length (now (room .entry))) tail (now (room .entry)) (now (queue .entry)) r (now (room .exit)) (now (queue .exit)) ⌝ }
     ensures { λ _. ⌜ ((y : ℕ) → Belongs (bookOf (now (marks .entry)) (now (objectors .entry)) (now (targets .entry))) y x
-        → Marked (now (room .exit)) y) ⌝ }
+        → Ticked (now (room .exit)) y) ⌝ }
 {
     let mut end = tail;
     let mut c = wide(head[x]);
@@ -86,7 +86,7 @@ fn follow(
     end
 }
 
-// Marks the statements that the reason for the asked one comes to, in a room that has no mark yet.
+// Ticks the statements that the reason for the asked one comes to, in a room that has no tick yet.
 fn reach(
     marks: &[u8],
     objectors: &[u32],
@@ -126,7 +126,7 @@ fn reach(
     }
 }
 
-// Whether the objection k is in the reason for the asked statement, of which the statements that it comes to are marked.
+// Whether the objection k is in the reason for the asked statement, of which the statements that it comes to have a tick.
 fn in_reason(
     marks: &[u8],
     objectors: &[u32],
@@ -149,8 +149,8 @@ fn in_reason(
     belongs(marks, objectors, targets, labels, lengths, k)
 }
 
-// Marks the objections in the reason for the asked statement, in a room that has no mark yet.
-pub fn mark(
+// Ticks the objections in the reason for the asked statement, in a room that has no tick yet.
+pub fn choose(
     marks: &[u8],
     objectors: &[u32],
     targets: &[u32],

@@ -25,9 +25,9 @@ use Rattle.listing.proofs.Rows.{statement-small, rows-same, upTo, length-upTo, 
 use Rattle.listing.proofs.Listing.{rows-bounded, text-length}
 use Rattle.listing.proofs.Told.{own-means, own-kind, own-row}
 use Rattle.reasons.specs.Reasons.{IsReason}
-use Rattle.reasons.specs.Rows.{hasMark, chosenAt, chosenPart, reasonRows}
+use Rattle.reasons.specs.Rows.{hasTick, chosenAt, chosenPart, reasonRows}
 use Rattle.reasons.proofs.Keep.{kept-shorter, rowIf, keep-rows}
-use Rattle.reasons.proofs.Rows.{has-mark}
+use Rattle.reasons.proofs.Rows.{has-tick}
 
 module _ (R : Register) (x : ℕ) where
   -- What the reason of a statement is, is not up to the program.
@@ -76,16 +76,16 @@ module _ (R : Register) (nums marks objectors targets labels lengths : List ℕ)
   own-rows = reasonRows (numbers R) (objectorsOf R) (targetsOf R) labels lengths inside x
 
   rows-are : chosenPart (numbers R) (objectorsOf R) (targetsOf R) labels lengths inside ≡ objectionRows
-      (keep (hasMark inside) (R .objections)) (keep (hasMark inside) (upTo (length (R .objections)) κs))
+      (keep (hasTick inside) (R .objections)) (keep (hasTick inside) (upTo (length (R .objections)) κs))
   unfolding chosenPart
   rows-are =
       ap (λ m. rowsTo m (chosenAt (numbers R) (objectorsOf R) (targetsOf R) labels lengths inside))
       (objectors-counted R (ready .made .valid))
       ∙ rows-same (length (R .objections)) (chosenAt (numbers R) (objectorsOf R) (targetsOf R) labels lengths inside)
-      (rowIf (hasMark inside) (R .objections) κs)
-      (λ k h. ap (λ u. cond (hasMark inside k) u [])
+      (rowIf (hasTick inside) (R .objections) κs)
+      (λ k h. ap (λ u. cond (hasTick inside k) u [])
       (own-row R nums marks objectors targets labels lengths ready k h))
-      ∙ sym (keep-rows (hasMark inside) (R .objections) κs)
+      ∙ sym (keep-rows (hasTick inside) (R .objections) κs)
 
   own-reason : x < length (R .statements) → Chosen (marksOf R) (objectorsOf R) (targetsOf R) x inside → IsReason R x own-rows
   own-reason l chosen = record {
@@ -96,8 +96,8 @@ module _ (R : Register) (nums marks objectors targets labels lengths : List ℕ)
     of-kind =
         λ k h. rw (getD-upTo (length (R .objections)) κs Idle k h)
         (own-kind R nums marks objectors targets labels lengths ready k h);
-    inside = hasMark inside;
-    exactly = λ k h. through (has-mark inside k) (chosen k (omega (arith, objectors-counted R (ready .made .valid))));
+    inside = hasTick inside;
+    exactly = λ k h. through (has-tick inside k) (chosen k (omega (arith, objectors-counted R (ready .made .valid))));
     is = ap (λ u. statementAt (numbers R) labels lengths x ++ u) rows-are;
   }
 

@@ -1,4 +1,4 @@
--- The rows of the objections that have a mark: whether the next one is there, how long they are, and that they are the
+-- The rows of the objections that have a tick: whether the next one is there, how long they are, and that they are the
 -- reason's.
 use mathlib.Core.Bool.{Bool, true, false, not, cond}
 use mathlib.Core.List.{List, [], _++_}
@@ -13,7 +13,7 @@ use Rattle.listing.specs.Room.{Put, rowsTo, verdictAt, statementAt, objectionAt
 use Rattle.listing.proofs.Rows.{statement-small, objection-small, rows-small}
 use Rattle.listing.proofs.Room.{put-more}
 use Rattle.listing.proofs.Puts.{put-start}
-use Rattle.reasons.specs.Rows.{hasMark, chosenAt, chosenPart}
+use Rattle.reasons.specs.Rows.{hasTick, chosenAt, chosenPart}
 
 module _ (nums objectors targets labels lengths inside : List ℕ) where
   abbrev row : ℕ → List ℕ
@@ -27,7 +27,7 @@ module _ (nums objectors targets labels lengths inside : List ℕ) where
 
   pub chosen-small : (m : ℕ) → length (rowsTo m row) ≤ 64 * m
   chosen-small =
-      rows-small row (λ k. go _ (hasMark inside k) (objection-small (getD nums (getD objectors k 0) 0)
+      rows-small row (λ k. go _ (hasTick inside k) (objection-small (getD nums (getD objectors k 0) 0)
       (getD nums (getD targets k 0) 0) (kindAt objectors targets labels lengths k)))
     where
       go : (l : List ℕ) (b : Bool) → length l ≤ 64 → length (cond b l []) ≤ 64
@@ -39,9 +39,9 @@ module _ (nums objectors targets labels lengths inside : List ℕ) where
   unfolding chosenPart
   chosen-all m e = ap (λ k. rowsTo k row) e
 
--- whether there is a mark
-pub has-mark : (inside : List ℕ) (k : ℕ) → T (hasMark inside k) ↔ (getD inside k 0 ≡ 0 → ⊥)
-has-mark inside k = (
+-- whether there is a tick
+pub has-tick : (inside : List ℕ) (k : ℕ) → T (hasTick inside k) ↔ (getD inside k 0 ≡ 0 → ⊥)
+has-tick inside k = (
   λ t e. subst (λ b. T (not b)) (eq-eqb (getD inside k 0) 0 e) t,
   λ n. subst (λ b. T (not b)) (sym (ne-eqb (getD inside k 0) 0 n)) tt,
 )

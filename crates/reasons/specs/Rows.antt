@@ -1,4 +1,4 @@
--- What the inner functions promise, not for callers: the rows of the objections that have a mark, by the numbers of labels and
+-- What the inner functions promise, not for callers: the rows of the objections that have a tick, by the numbers of labels and
 -- lengths.
 use mathlib.Core.Bool.{Bool, not, cond}
 use mathlib.Core.List.{List, [], _++_}
@@ -9,14 +9,14 @@ use Rattle.listing.specs.Room.{rowsTo, statementAt, objectionAt}
 use Rattle.answer.specs.Answer.{Promised, Written, Short}
 use Rattle.answer.specs.declared.Answer.{Answer}
 
--- whether the objection k has a mark
-abbrev pub hasMark : List ℕ → ℕ → Bool
-hasMark inside k = not (eqb (getD inside k 0) 0)
+-- whether the objection k has a tick
+abbrev pub hasTick : List ℕ → ℕ → Bool
+hasTick inside k = not (eqb (getD inside k 0) 0)
 
 -- its row if it has, else nothing
 abbrev pub chosenAt : (nums objectors targets labels lengths inside : List ℕ) → ℕ → List ℕ
 chosenAt nums objectors targets labels lengths inside k =
-    cond (hasMark inside k) (objectionAt nums objectors targets labels lengths k) []
+    cond (hasTick inside k) (objectionAt nums objectors targets labels lengths k) []
 
 -- the rows of all that have
 unfoldable pub chosenPart : (nums objectors targets labels lengths inside : List ℕ) → List ℕ

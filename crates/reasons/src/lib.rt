@@ -15,7 +15,7 @@ ghost use Rattle.listing.specs.Room.{Fits, Put, Lists};
 ghost use Rattle.reasons.specs.Reasons.{ReasonWritten, TextReason};
 ghost use Rattle.reasons.specs.Rows.{chosenPart, RowsWritten};
 
-// The size of the rows of the objections that have a mark.
+// The size of the rows of the objections that have a tick.
 fn rows_size(
     numbers: &[u32],
     marks: &[u8],
@@ -42,7 +42,7 @@ fn rows_size(
     total
 }
 
-// Puts the rows of the objections that have a mark into the room at a place, and answers the place behind them.
+// Puts the rows of the objections that have a tick into the room at a place, and answers the place behind them.
 fn put_rows(
     room: &mut [u8],
     at: usize,
@@ -83,7 +83,7 @@ fn put_rows(
     end
 }
 
-// Writes the reason of the statement at the place x, whose objections have their marks, if there is room for all of it.
+// Writes the reason of the statement at the place x, whose objections have their ticks, if there is room for all of it.
 fn write_rows(
     numbers: &[u32],
     marks: &[u8],
@@ -142,7 +142,7 @@ fn write_reason(
         return Answer::Refused(Refusal::Asked);
     }
     let mut inside = [0u8; 4096];
-    reach::mark(marks, objectors, targets, labels, lengths, x, &mut inside);
+    reach::choose(marks, objectors, targets, labels, lengths, x, &mut inside);
     write_rows(
         numbers,
         marks,

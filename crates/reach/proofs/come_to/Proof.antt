@@ -1,5 +1,5 @@
--- `come_to` leaves a statement that has its mark, and marks and queues any other.
-use Rattle.reach.proofs.Marks.{grown-none, queue-room, now-marked, grown-one}
+-- `come_to` leaves a statement that has its tick, and ticks and queues any other.
+use Rattle.reach.proofs.Ticks.{grown-none, queue-room, now-ticked, grown-one}
 use borrow.Author.Needs.{needs}
 use Rattle.reach.proofs.come_to.Statement.{statement}
 use Rattle.reach.proofs.come_to.Tie as tie
@@ -36,7 +36,7 @@ returns-2 : tie.Need-returns-2
 returns-2 c =
     let pre = c .before .before .pre in
     let none = c .if1 .left in
-    (grown-one _ _ _ _ _ (pre .0) (pre .1) none, now-marked _ _ _ _ _ (pre .0) (pre .1) none)
+    (grown-one _ _ _ _ _ (pre .0) (pre .1) none, now-ticked _ _ _ _ _ (pre .0) (pre .1) none)
 
 pub come-to-spec : {M : Type 1} → statement M
 come-to-spec =

@@ -1,9 +1,9 @@
--- `follow` goes along the chain of x. The invariant: the objections that were seen are followed, and nothing else is marked.
+-- `follow` goes along the chain of x. The invariant: the objections that were seen are followed, and nothing else has a tick.
 use Prim.Native.Nat.{_-_, _<_}
 use native.Mathlib.Omega.{arith}
 use lib.ListN.{length}
 use Rattle.chain.proofs.Walks.{walk-lower}
-use Rattle.reach.proofs.Marks.{queued-in-room, grown-in-room}
+use Rattle.reach.proofs.Ticks.{queued-in-room, grown-in-room}
 use Rattle.reach.proofs.Steps.{Following, follow-begins, follow-passes, follow-comes, follow-ends}
 use borrow.Author.Needs.{needs}
 use Rattle.reach.proofs.follow.Statement.{statement}

@@ -1,4 +1,4 @@
--- `in_reason` goes by the target's mark, and then by `belongs`.
+-- `in_reason` goes by the target's tick, and then by `belongs`.
 use native.Mathlib.Omega.{arith}
 use Rattle.reach.proofs.Steps.{apart, within}
 use borrow.Author.Needs.{needs}

@@ -1,10 +1,10 @@
--- `reach` goes along its own queue. The invariant: what is marked is reached, and what comes before `at` is followed.
+-- `reach` goes along its own queue. The invariant: what has a tick is reached, and what comes before `at` is followed.
 use mathlib.Core.Path.{_≡_, refl, sym, _∙_}
 use Prim.Native.Nat.{_-_}
 use native.Mathlib.Omega.{arith}
 use lib.ListN.{length}
 use Rattle.chain.proofs.Links.{all-zero}
-use Rattle.reach.proofs.Marks.{queued-none, queued-in-room, grown-in-room, queue-few}
+use Rattle.reach.proofs.Ticks.{queued-none, queued-in-room, grown-in-room, queue-few}
 use Rattle.reach.proofs.Steps.{Spreading, spread-begins, spread-more, spread-listed, spread-ends}
 use borrow.Author.Needs.{needs}
 use Rattle.reach.proofs.reach.Statement.{statement}

@@ -15,11 +15,11 @@ find-requires c κs = search needs
 returns : tie.Need-returns
 returns c = λ R ready. (unlisted R _ _ _ _ (ready .made) _ _ (c .before .find .ensures) _ _ (c .if1 .taken), refl)
 
-slice-aggregate-mark : tie.Need-slice-aggregate-mark
-slice-aggregate-mark c = search needs
+slice-aggregate-choose : tie.Need-slice-aggregate-choose
+slice-aggregate-choose c = search needs
 
-mark-requires : tie.Need-mark-requires
-mark-requires c κs =
+choose-requires : tie.Need-choose-requires
+choose-requires c κs =
     let ready = c .before .before .before .before .before .before .before .before .before .before .pre .1 in
     let settled = ready-settled _ _ _ _ _ _ _ ready in (
       (settled, omega (arith, c .before .if1 .left, counted _ _ _ _ _ (ready .made))),
@@ -36,7 +36,7 @@ write-rows-requires c κs =
     let few = ready-settled _ _ _ _ _ _ _ ready .handed .few-pairs in (
       ready-lists _ _ _ _ _ _ _ ready,
       omega
-          (arith, c .before .before .before .mark .kept .1 .1 .1 .1 .1 .1 .0, few),
+          (arith, c .before .before .before .choose .kept .1 .1 .1 .1 .1 .1 .0, few),
       c .before .before .before .before .before .if1
           .left,
     )
@@ -46,13 +46,13 @@ same-length c = search needs
 
 returns-2 : tie.Need-returns-2
 returns-2 c =
-    let mark = c .before .before .before .before .before .before .mark in
+    let choose = c .before .before .before .before .before .before .choose in
     let if1 = c .before .before .before .before .before .before .before .before .if1 in
     let find = c .before .before .before .before .before .before .before .before .before .find in
     let args = c .before .before .before .before .before .before .before .before .before .before .before .before .before .before .before .before .before .args in
     λ R ready. reason-written R (args .numbers .now) (args .marks .now) (args .objectors .now) (args .targets .now)
     (args .labels .now) (args .lengths .now) ready (args .number) (find .result) (find .ensures)
-    (if1 .left) (mark .last .1 .1 .1 .1 .1 .1 .0) (mark .ensures) (args .room .now)
+    (if1 .left) (choose .last .1 .1 .1 .1 .1 .1 .0) (choose .ensures) (args .room .now)
     (c .before .before .write-rows .result) (c .before .before .write-rows .last .1 .1 .1 .1 .1 .1 .1 .1 .0)
     (c .before .before .write-rows .ensures)
 
@@ -62,8 +62,8 @@ write-reason-spec =
     (tie.spec
     find-requires
     returns
-    slice-aggregate-mark
-    mark-requires
+    slice-aggregate-choose
+    choose-requires
     slice-aggregate-write-rows
     write-rows-requires
     same-length

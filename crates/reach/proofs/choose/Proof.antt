@@ -1,4 +1,4 @@
--- `mark` asks of each objection whether it is in the reason. The invariant: those passed have their marks, the others none.
+-- `choose` asks of each objection whether it is in the reason. The invariant: those passed have their ticks, the others none.
 use mathlib.Core.Path.{_≡_, refl, _∙_}
 use Prim.Native.Nat.{_-_, _≤_}
 use native.Mathlib.Omega.{arith}
@@ -6,8 +6,8 @@ use lib.ListN.{length, length-set}
 use Rattle.chain.proofs.Links.{all-zero}
 use Rattle.reach.proofs.Steps.{Choosing, chosen-in, chosen-out}
 use borrow.Author.Needs.{needs}
-use Rattle.reach.proofs.mark.Statement.{statement}
-use Rattle.reach.proofs.mark.Tie as tie
+use Rattle.reach.proofs.choose.Statement.{statement}
+use Rattle.reach.proofs.choose.Tie as tie
 
 abbrev Inv-loop : tie.InvT-loop
 Inv-loop marks objectors targets labels lengths asked inside₀ reached next₀ inside next =
@@ -84,8 +84,8 @@ same-length c = search needs
 returns : tie.Need-returns Inv-loop μ-loop
 returns c = λ k h. c .before .loop .inv .2 .0 k (omega (arith, c .loop-test .left))
 
-pub mark-spec : {M : Type 1} → statement M
-mark-spec =
+pub choose-spec : {M : Type 1} → statement M
+choose-spec =
     tie.close
     (tie.spec
     Inv-loop

@@ -1,4 +1,4 @@
--- Marks and the queue: nothing is marked yet, one statement more, and one growth after another.
+-- Ticks and the queue: nothing has a tick yet, one statement more, and one growth after another.
 use mathlib.Core.List.{List}
 use mathlib.Core.Logic.{_⊎_, inl, inr, ⊎-elim}
 use mathlib.Core.Path.{_≡_, refl, sym, _∙_, ap, subst}
@@ -8,7 +8,7 @@ use lib.Dec.{lit<}
 use lib.ListN.{length, getD, set, length-set}
 use Rattle.chain.proofs.Links.{stored, split}
 use Rattle.label.proofs.Steps.{zeros-set, zeros-all}
-use Rattle.reach.specs.Reach.{Marked, Queued, Grown}
+use Rattle.reach.specs.Reach.{Ticked, Queued, Grown}
 
 pub queued-none : (n : ℕ) (room queue : List ℕ) → length room ≡ n → n ≤ length queue → ((x : ℕ) → getD room x 0 ≡ 0)
     → Queued n 0 room queue
@@ -36,7 +36,7 @@ grown-more P Q n t room queue r room′ queue′ s room″ queue″ g f h = reco
   before = λ i l. h .before i (omega (arith, g .longer)) ∙ g .before i l;
 }
 
--- one statement more, where there was no mark: there is room for it in the queue
+-- one statement more, where there was no tick: there is room for it in the queue
 module _ (n t y : ℕ) (room queue : List ℕ) (q : Queued n t room queue) (l : y < n) (z : getD room y 0 ≡ 0) where
   in-room : y < length room
   in-room = omega (arith, q .same)
@@ -44,13 +44,13 @@ module _ (n t y : ℕ) (room queue : List ℕ) (q : Queued n t room queue) (l : 
   pub queue-room : t < length queue
   queue-room = omega (arith, q .full, q .space, zeros-set room y 1 in-room z (lit< tt))
 
-  pub now-marked : Marked (set room y 1) y
-  now-marked e = ⊎-elim (λ a. omega (arith, a .1)) (λ a. a .0 refl) (stored room y 1 in-room y)
+  pub now-ticked : Ticked (set room y 1) y
+  now-ticked e = ⊎-elim (λ a. omega (arith, a .1)) (λ a. a .0 refl) (stored room y 1 in-room y)
 
-  still-marked : (x : ℕ) → Marked room x → Marked (set room y 1) x
-  still-marked x m e = ⊎-elim (λ a. omega (arith, a .1)) (λ a. m (sym (a .1) ∙ e)) (stored room y 1 in-room x)
+  still-ticked : (x : ℕ) → Ticked room x → Ticked (set room y 1) x
+  still-ticked x m e = ⊎-elim (λ a. omega (arith, a .1)) (λ a. m (sym (a .1) ∙ e)) (stored room y 1 in-room x)
 
-  newly : (x : ℕ) → Marked (set room y 1) x → Marked room x ⊎ (x ≡ y)
+  newly : (x : ℕ) → Ticked (set room y 1) x → Ticked room x ⊎ (x ≡ y)
   newly x m = ⊎-elim (λ a. inr (a .0)) (λ a. inl (λ e. m (a .1 ∙ e))) (stored room y 1 in-room x)
 
   earlier : (i : ℕ) → i < t → getD (set queue t y) i 0 ≡ getD queue i 0
@@ -68,21 +68,21 @@ module _ (n t y : ℕ) (room queue : List ℕ) (q : Queued n t room queue) (l : 
       places = λ i h. ⊎-elim (old i) (here i) (split h);
       each = λ x m. ⊎-elim (again x) (λ e. (t, omega arith, last ∙ sym e)) (newly x m);
     };
-    kept = still-marked;
+    kept = still-ticked;
     new = newly;
     longer = omega arith;
     as-long = length-set queue t y;
     before = earlier;
   }
     where
-      old : (i : ℕ) → i < t → (getD (set queue t y) i 0 < n) × Marked (set room y 1) (getD (set queue t y) i 0)
-      old i h = rw (earlier i h) (q .places i h .0, still-marked (getD queue i 0) (q .places i h .1))
+      old : (i : ℕ) → i < t → (getD (set queue t y) i 0 < n) × Ticked (set room y 1) (getD (set queue t y) i 0)
+      old i h = rw (earlier i h) (q .places i h .0, still-ticked (getD queue i 0) (q .places i h .1))
 
-      here : (i : ℕ) → i ≡ t → (getD (set queue t y) i 0 < n) × Marked (set room y 1) (getD (set queue t y) i 0)
+      here : (i : ℕ) → i ≡ t → (getD (set queue t y) i 0 < n) × Ticked (set room y 1) (getD (set queue t y) i 0)
       here i e =
-          subst (λ u. (u < n) × Marked (set room y 1) u) (sym (ap (λ j. getD (set queue t y) j 0) e ∙ last)) (l, now-marked)
+          subst (λ u. (u < n) × Ticked (set room y 1) u) (sym (ap (λ j. getD (set queue t y) j 0) e ∙ last)) (l, now-ticked)
 
-      again : (x : ℕ) → Marked room x → (i : ℕ) × (i < t + 1) × (getD (set queue t y) i 0 ≡ x)
+      again : (x : ℕ) → Ticked room x → (i : ℕ) × (i < t + 1) × (getD (set queue t y) i 0 ≡ x)
       again x m = let (i, h, e) = q .each x m in (i, omega arith, earlier i h ∙ e)
 
 -- the statements are as many as the room has entries

@@ -104,12 +104,7 @@ try '65,536 bytes that come in pieces' too_long_in_pieces
 try '200,000 bytes' far_too_long
 try 'an input without an end' endless
 
-try 'a text that is not ended' refuses_words 2 0 'S 1 R'
-try 'a spoiled line' refuses_words 3 2 'S 1 R\nS 2\n'
-try 'a late statement' refuses_words 4 3 'S 1 R\nO 1 1\nS 2 R\n'
-try 'a number issued twice' refuses_words 5 2 'S 1 R\nS 1 U\n'
-try 'an unknown number' refuses_words 7 2 'S 1 R\nO 1 2\n'
-try 'a repeated objection' refuses_words 8 3 'S 1 R\nO 1 1\nO 1 1\n'
+refused_texts refuses_words
 try 'the 1,025th statement' too_many_statements
 try 'the 4,097th objection' too_many_objections
 

@@ -107,12 +107,7 @@ try 'two words' usage 5 6
 try 'two words, of which one is empty' usage 5 ''
 try 'three words' usage 5 6 7
 
-try 'a text that is not ended' text_refused_first 2 0 'S 1 R'
-try 'a spoiled line' text_refused_first 3 2 'S 1 R\nS 2\n'
-try 'a late statement' text_refused_first 4 3 'S 1 R\nO 1 1\nS 2 R\n'
-try 'a number issued twice' text_refused_first 5 2 'S 1 R\nS 1 U\n'
-try 'an unknown objector' text_refused_first 7 2 'S 1 R\nO 1 2\n'
-try 'a repeated objection' text_refused_first 8 3 'S 1 R\nO 1 1\nO 1 1\n'
+refused_texts text_refused_first
 try 'a text that is too long' too_long_first
 
 try 'an input that comes byte by byte' asking 102 in_pieces examples/game.txt 1

@@ -253,3 +253,13 @@ try_pieces() {
         printf 'left out: the pieces of what is printed, for which strace is missing\n'
     fi
 }
+
+# refused_texts TRIAL: a text for each refusal of a short text, tried by a function of number, place and words
+refused_texts() {
+    try 'a text that is not ended' "$1" 2 0 'S 1 R'
+    try 'a spoiled line' "$1" 3 2 'S 1 R\nS 2\n'
+    try 'a late statement' "$1" 4 3 'S 1 R\nO 1 1\nS 2 R\n'
+    try 'a number issued twice' "$1" 5 2 'S 1 R\nS 1 U\n'
+    try 'an unknown number' "$1" 7 2 'S 1 R\nO 1 2\n'
+    try 'a repeated objection' "$1" 8 3 'S 1 R\nO 1 1\nO 1 1\n'
+}

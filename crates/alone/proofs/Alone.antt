@@ -9,7 +9,6 @@ use Prim.Native.Nat.{ℕ, suc, _≤_, _<_}
 use native.Mathlib.Omega.{arith}
 use lib.Dec.{T, eqb}
 use lib.ListN.{length, getD, length-append, length-map}
-use lib.Seq.{take-all}
 use Rattle.game.specs.Book.{Listed, bookOf}
 use Rattle.game.specs.Label.{Verdict, is-open, Means}
 use Rattle.game.specs.Reason.{InReason, OfReason, OnlyReason}
@@ -23,10 +22,9 @@ use Rattle.line.specs.declared.Line.{Line}
 use Rattle.line.specs.declared.Line.the-variants.{Statement, Objection}
 use Rattle.text.specs.Register.{Register, numbers, Issued, Valid, bytes, written, placeOf, marksOf, objectorsOf, targetsOf, book}
 use Rattle.text.specs.Reads.{Accepts}
-use Rattle.text.specs.State.{Holds}
-use Rattle.text.proofs.Order.{mapped, marks-counted, objectors-counted, targets-counted}
-use Rattle.text.proofs.Steps.{place-is}
-use Rattle.listing.specs.Listing.{statementRow, IsListing}
+use Rattle.text.proofs.Order.{mapped, place-first, numbers-counted, marks-counted, objectors-counted}
+use Rattle.rows.specs.Rows.{statementRow}
+use Rattle.listing.specs.Listing.{IsListing}
 use Rattle.alone.specs.Alone.{keep, Alone}
 use Rattle.alone.proofs.Keep.{keep-same, tests-same, Kept, keep-kept, kept-once}
 
@@ -48,9 +46,6 @@ abbrev Known : Register → End → Type 0
 Known R end = (k : ℕ) → k < length (R .objections) → Issued R (endNumber R end k)
 
 module _ (R : Register) where
-  numbers-counted : length (numbers R) ≡ length (R .statements)
-  numbers-counted = length-map (R .statements) (λ (st : StatementLine). st .number)
-
   to-listed : (z : ℕ) → z < length (R .statements) → Listed (book R) z
   unfolding bookOf
   to-listed z h = omega (arith, length-map (R .statements) (λ (st : StatementLine). markNumber (st .mark)))
@@ -61,20 +56,10 @@ module _ (R : Register) where
 
 -- Numbers are issued once, so a number has no place but the one where it stands.
 module _ (R : Register) (valid : Valid R) where
-  holds : Holds R (length (R .statements)) (length (R .objections)) (numbers R) (marksOf R) (objectorsOf R) (targetsOf R)
-  holds = record {
-    statements = refl;
-    objections = refl;
-    numbers-are = take-all (length (R .statements)) (numbers R) (omega (arith, numbers-counted R));
-    marks-are = take-all (length (R .statements)) (marksOf R) (omega (arith, marks-counted R valid));
-    objectors-are = take-all (length (R .objections)) (objectorsOf R) (omega (arith, objectors-counted R valid));
-    targets-are = take-all (length (R .objections)) (targetsOf R) (omega (arith, targets-counted R valid));
-  }
-
   place-at : (v z : ℕ) → z < length (R .statements) → number R z ≡ v → placeOf (numbers R) v ≡ z
   place-at v z h e =
-      place-is R (length (R .statements)) (length (R .objections)) (numbers R) (marksOf R) (objectorsOf R) (targetsOf R) holds v z
-      (h, e) (λ j k q. valid .once j z k (omega (arith, numbers-counted R)) (q ∙ sym e))
+      let l : z < length (numbers R) = omega (arith, numbers-counted R) in
+      place-first (numbers R) v z l e (λ j k q. valid .once j z k l (q ∙ sym e))
 
   module _ (end : End) where
     end-place : (k z : ℕ) → k < length (R .objections) → z < length (R .statements) → number R z ≡ endNumber R end k

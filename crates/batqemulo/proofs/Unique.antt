@@ -5,8 +5,10 @@ use Prim.Native.Nat.{ℕ}
 use Rattle.answer.specs.declared.Answer.{Answer}
 use Rattle.on_lists.specs.Lists.{PairsLabels, PairsLengths, PairsKinds, MovesLabels, MovesLengths, PairsLine, PairsExercise}
 use Rattle.on_lists.proofs.Unique.{unique-pairs-labels, unique-pairs-lengths, unique-pairs-kinds, unique-moves-labels, unique-moves-lengths, unique-pairs-line, unique-pairs-exercise}
-use Rattle.on_text.specs.Texts.{TextLabels, TextLengths, TextListing, TextLine, TextExercise}
-use Rattle.on_text.proofs.Unique.{unique-text-labels, unique-text-lengths, unique-text-listing, unique-text-line, unique-text-exercise}
+use Rattle.on_text.specs.Texts.{TextLabels, TextLengths, TextListing}
+use Rattle.on_text.proofs.Unique.{unique-text-labels, unique-text-lengths, unique-text-listing}
+use Rattle.asked.specs.Asked.{TextLine, TextExercise}
+use Rattle.asked.proofs.Unique.{unique-text-line, unique-text-exercise}
 use Rattle.reasons.specs.Reasons.{TextReason}
 use Rattle.reasons.proofs.Unique.{unique-text-reason}
 use Rattle.batqemulo.specs.InC.{inC, InC}

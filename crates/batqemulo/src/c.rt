@@ -4,7 +4,8 @@ use answer::Answer;
 ghost use mathlib.Core.Path.{_≡_};
 ghost use Rattle.batqemulo.specs.InC.{inC, InC};
 ghost use Rattle.on_lists.specs.Lists.{PairsLabels, PairsLengths, PairsKinds, MovesLabels, MovesLengths, PairsLine, PairsExercise};
-ghost use Rattle.on_text.specs.Texts.{TextLabels, TextLengths, TextListing, TextLine, TextExercise};
+ghost use Rattle.on_text.specs.Texts.{TextLabels, TextLengths, TextListing};
+ghost use Rattle.asked.specs.Asked.{TextLine, TextExercise};
 ghost use Rattle.reasons.specs.Reasons.{TextReason};
 
 fn in_c(answer: Answer) -> CAnswer
@@ -148,7 +149,7 @@ pub extern "C" fn batqemulo_pairs_exercise(
 pub extern "C" fn batqemulo_text_line(text: &[u8], number: u32, line: &mut [u32]) -> CAnswer
     ensures { λ c. ⌜ InC (λ a. TextLine (now (text .entry)) number (now (line .entry)) a (now (line .exit))) c ⌝ }
 {
-    in_c(on_text::text_line(text, number, line))
+    in_c(asked::text_line(text, number, line))
 }
 
 // The class exercise on a text.
@@ -156,7 +157,7 @@ pub extern "C" fn batqemulo_text_line(text: &[u8], number: u32, line: &mut [u32]
 pub extern "C" fn batqemulo_text_exercise(text: &[u8], number: u32, turns: u32) -> CAnswer
     ensures { λ c. ⌜ InC (TextExercise (now (text .entry)) number turns) c ⌝ }
 {
-    in_c(on_text::text_exercise(text, number, turns))
+    in_c(asked::text_exercise(text, number, turns))
 }
 
 // The reason of a statement of a text.

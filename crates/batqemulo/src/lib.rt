@@ -1,8 +1,10 @@
 // The product: what other Rattle programs call is named here, and what C calls is in `c`. None of it asks anything of its
-// caller. The calls themselves are in `on_lists`, `on_text` and `reasons`.
+// caller. The calls themselves are in `on_lists`, `on_text`, `asked` and `reasons`.
 pub mod c;
 
 pub use answer::Answer;
+pub use asked::text_exercise;
+pub use asked::text_line;
 pub use on_lists::moves_labels;
 pub use on_lists::moves_lengths;
 pub use on_lists::pairs_exercise;
@@ -10,10 +12,8 @@ pub use on_lists::pairs_kinds;
 pub use on_lists::pairs_labels;
 pub use on_lists::pairs_lengths;
 pub use on_lists::pairs_line;
-pub use on_text::text_exercise;
 pub use on_text::text_labels;
 pub use on_text::text_lengths;
-pub use on_text::text_line;
 pub use on_text::text_listing;
 pub use reasons::text_reason;
 

@@ -31,8 +31,10 @@ use Rattle.on_lists.proofs.Unique.{unique-pairs-labels, unique-pairs-lengths, u
 use Rattle.solved.specs.Solved.{TextRefuses, Places}
 use Rattle.solved.proofs.Laws.{text-apart, place-once}
 use Rattle.solved.proofs.Lists.{list-unique}
-use Rattle.on_text.specs.Texts.{ListingShort, byNumber, ExerciseIn, TextLabels, TextLengths, TextListing, TextLine, TextExercise}
-use Rattle.on_text.proofs.Unique.{unique-text-labels, unique-text-lengths, unique-text-listing, unique-text-exercise}
+use Rattle.on_text.specs.Texts.{ListingShort, TextLabels, TextLengths, TextListing}
+use Rattle.on_text.proofs.Unique.{unique-text-labels, unique-text-lengths, unique-text-listing}
+use Rattle.asked.specs.Asked.{byNumber, ExerciseIn, TextLine, TextExercise}
+use Rattle.asked.proofs.Unique.{unique-text-exercise}
 use Rattle.reasons.specs.Reasons.{IsReason, TextReason}
 use Rattle.reasons.proofs.Reasons.{reason-once}
 use Rattle.batqemulo.specs.Demands.{Settled, Answers, LabelSays, LengthSays, KindSays}
@@ -340,8 +342,9 @@ module _ (s : List ℕ) where
           getD l k 0,
           omega (
             arith,
-            line-listed (book R) (omega (arith, q .0, numbers-counted R (a .valid))) is k j,
-            numbers-counted R (a .valid),
+            line-listed (book R) (omega (arith, q .0, numbers-counted R, marks-counted R (a .valid))) is k j,
+            numbers-counted R,
+            marks-counted R (a .valid),
           ),
           sym g,
         ),

@@ -17,7 +17,7 @@ use Rattle.game.proofs.Verdict.{verdict, verdictBy, verdict-means}
 use Rattle.pairs.specs.Refuses.{Lists}
 use Rattle.text.specs.Register.{Register, book, placeOf}
 use Rattle.text.proofs.Order.{marks-counted}
-use Rattle.listing.proofs.Rows.{upTo, length-upTo, getD-upTo}
+use Rattle.listing.proofs.Parts.{upTo, length-upTo, getD-upTo}
 use Rattle.table.specs.Table.{ascii}
 use Rattle.table.proofs.Check.{lone, chain, lone-accepted, chain-accepted}
 use Rattle.refusal.specs.declared.Refusal.{Refusal}

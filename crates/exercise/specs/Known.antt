@@ -6,15 +6,12 @@ use Prim.Native.Nat.{ℕ, _+_, _*_, _<_}
 use lib.ListN.{length, getD}
 use Rattle.game.specs.Book.{Book}
 use Rattle.game.specs.Rules.{fallsWithin, standsWithin}
-use Rattle.chain.specs.Chained.{Chained}
+use Rattle.chain.specs.Chained.{Chains}
 use Rattle.chain.specs.Handed.{Handed}
 
--- the objections are chained by target
-pub record Chains (marks objectors targets head next : List ℕ) : Type 0 where
-  pub handed : Handed marks objectors targets
-  pub chained : Chained targets (length targets) head next
-  pub head-room : length head ≡ 1024
-  pub next-room : length next ≡ 4096
+-- the lists are in order, and the objections chained by target
+abbrev pub Walked : (marks objectors targets head next : List ℕ) → Type 0
+Walked marks objectors targets head next = Handed marks objectors targets × Chains marks targets head next
 
 -- The table of one question: the entry of each statement x and number of turns t is unknown (0), or it is the right answer
 -- (1 no, 2 yes).

@@ -11,7 +11,7 @@ ghost use Rattle.game.specs.Book.{bookOf};
 ghost use Rattle.game.specs.Rules.{fallsWithin, standsWithin};
 ghost use Rattle.chain.specs.Handed.{Handed};
 ghost use Rattle.exercise.specs.Exercise.{Answered};
-ghost use Rattle.exercise.specs.Known.{Chains, Known};
+ghost use Rattle.exercise.specs.Known.{Walked, Known};
 
 // Whether x falls within the turns. `falls` and `stands` hold what is known already, an entry for each statement and number
 // of turns: 0 unknown, 1 no, 2 yes. So no statement's objectors are walked twice for the same question and turns.
@@ -26,7 +26,7 @@ fn falls_within(
     falls: &mut [u8],
     stands: &mut [u8],
 ) -> bool
-    requires { ⌜ Chains (now marks) (now objectors) (now targets) (now head) (now next) × (x < length (now marks))
+    requires { ⌜ Walked (now marks) (now objectors) (now targets) (now head) (now next) × (x < length (now marks))
         × (turns ≤ 6) ⌝ }
     requires { ⌜ Known (bookOf (now marks) (now objectors) (now targets)) (now falls) (now stands) ⌝ }
     ensures { λ r. ⌜ (r ≡ fallsWithin (bookOf (now (marks .entry)) (now (objectors .entry)) (now (targets .entry))) turns x)
@@ -80,7 +80,7 @@ fn stands_within(
     falls: &mut [u8],
     stands: &mut [u8],
 ) -> bool
-    requires { ⌜ Chains (now marks) (now objectors) (now targets) (now head) (now next) × (x < length (now marks))
+    requires { ⌜ Walked (now marks) (now objectors) (now targets) (now head) (now next) × (x < length (now marks))
         × (turns ≤ 6) ⌝ }
     requires { ⌜ Known (bookOf (now marks) (now objectors) (now targets)) (now falls) (now stands) ⌝ }
     ensures { λ r. ⌜ (r ≡ standsWithin (bookOf (now (marks .entry)) (now (objectors .entry)) (now (targets .entry))) turns x)

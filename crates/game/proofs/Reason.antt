@@ -42,6 +42,15 @@ not-idle-counts (Felling n) t = tt
 not-idle-counts (Delaying n) t = tt
 not-idle-counts Standoff t = tt
 
+-- An objection of a kind that is not idle, by the verdicts of its two ends, belongs to reasons.
+belongs-by : (B : Book) (y x : ℕ) (v w : Verdict) (κ : Kind) → Objects B y x → Means B x v → Means B y w → kindOf v w ≡ some κ
+    → NotIdle κ → Belongs B y x
+belongs-by B y x v w κ o p q e n = record {
+  kind = κ;
+  of-kind = record { target = v; objector = w; objects = o; target-means = p; objector-means = q; is = e };
+  not-idle = n;
+}
+
 module _ (B : Book) where
   unfoldable pub belonging : ℕ → ℕ → Bool
   belonging y x = (ltb y (B .size) && B .objects y x) && counts (kindOf (verdict B x) (verdict B y))
@@ -52,18 +61,8 @@ module _ (B : Book) where
     where
       of-kind : Objects B y x → (k : Option Kind) → kindOf (verdict B x) (verdict B y) ≡ k → T (counts k) → Belongs B y x
       of-kind o none e c = absurd c
-      of-kind o (some κ) e c = record {
-        kind = κ;
-        of-kind = record {
-          target = verdict B x;
-          objector = verdict B y;
-          objects = o;
-          target-means = verdict-means B x l;
-          objector-means = verdict-means B y (o .0);
-          is = e;
-        };
-        not-idle = counts-not-idle κ c;
-      }
+      of-kind o (some κ) e c =
+          belongs-by B y x (verdict B x) (verdict B y) κ o (verdict-means B x l) (verdict-means B y (o .0)) e (counts-not-idle κ c)
 
       to : T ((ltb y (B .size) && B .objects y x) && counts (kindOf (verdict B x) (verdict B y))) → Belongs B y x
       to t =
@@ -197,25 +196,15 @@ module _ (B : Book) where
 
 -- What decides a target belongs to every reason that comes to it.
 needed-belongs : (B : Book) (y x : ℕ) (v w : Verdict) → Objects B y x → Means B x v → Means B y w → Needed v w → Belongs B y x
-needed-belongs B y x v w o p q n = go v w p q n
-  where
-    of-kind : (v w : Verdict) (κ : Kind) → Means B x v → Means B y w → kindOf v w ≡ some κ → NotIdle κ → Belongs B y x
-    of-kind v w κ p q e n = record {
-      kind = κ;
-      of-kind = record { target = v; objector = w; objects = o; target-means = p; objector-means = q; is = e };
-      not-idle = n;
-    }
-
-    go : (v w : Verdict) → Means B x v → Means B y w → Needed v w → Belongs B y x
-    go (falls n) (stands m) p q h = of-kind (falls n) (stands m) (Felling (suc m)) p q refl tt
-    go (falls n) (falls m) p q h = absurd h
-    go (falls n) is-open p q h = absurd h
-    go (stands n) (stands m) p q h = absurd h
-    go (stands n) (falls m) p q h = of-kind (stands n) (falls m) (Delaying (suc m)) p q refl tt
-    go (stands n) is-open p q h = absurd h
-    go is-open (stands m) p q h = absurd h
-    go is-open (falls m) p q h = absurd h
-    go is-open is-open p q h = of-kind is-open is-open Standoff p q refl tt
+needed-belongs B y x (falls n) (stands m) o p q h = belongs-by B y x (falls n) (stands m) (Felling (suc m)) o p q refl tt
+needed-belongs B y x (falls n) (falls m) o p q h = absurd h
+needed-belongs B y x (falls n) is-open o p q h = absurd h
+needed-belongs B y x (stands n) (stands m) o p q h = absurd h
+needed-belongs B y x (stands n) (falls m) o p q h = belongs-by B y x (stands n) (falls m) (Delaying (suc m)) o p q refl tt
+needed-belongs B y x (stands n) is-open o p q h = absurd h
+needed-belongs B y x is-open (stands m) o p q h = absurd h
+needed-belongs B y x is-open (falls m) o p q h = absurd h
+needed-belongs B y x is-open is-open o p q h = belongs-by B y x is-open is-open Standoff o p q refl tt
 
 -- "A register of only the reason's statements, with their marks, and its objections gives the asked statement the same label
 -- and length", and each other statement of it too.

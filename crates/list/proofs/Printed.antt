@@ -10,7 +10,8 @@ use Rattle.refusal.specs.declared.Refusal.{Refusal}
 use Rattle.text.specs.Register.{Register}
 use Rattle.text.specs.Reads.{Accepts, Refuses}
 use Rattle.text.proofs.Unique as text
-use Rattle.listing.specs.Listing.{IsListing, refusedRow}
+use Rattle.rows.specs.Rows.{refusedRow}
+use Rattle.listing.specs.Listing.{IsListing}
 use Rattle.listing.proofs.Listing.{listing-once, listing-short}
 use Rattle.answer.specs.Answer.{Short}
 use Rattle.answer.specs.declared.Answer.{Answer}

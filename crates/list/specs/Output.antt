@@ -7,7 +7,8 @@ use Prim.Native.Nat.{ℕ}
 use Rattle.refusal.specs.Numbers.{numberOf, placeOf}
 use Rattle.refusal.specs.declared.Refusal.{Refusal}
 use Rattle.text.specs.Register.{Register}
-use Rattle.listing.specs.Listing.{IsListing, refusedRow}
+use Rattle.rows.specs.Rows.{refusedRow}
+use Rattle.listing.specs.Listing.{IsListing}
 use Rattle.text.specs.Reads.{Accepts, Refuses}
 
 abbrev pub Prints : (text printed : List ℕ) → Type 0

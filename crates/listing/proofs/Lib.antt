@@ -1,6 +1,4 @@
-pub mod Room
-pub mod Digits
-pub mod Rows
+pub mod Parts
 pub mod Puts
 pub mod Told
 pub mod Listing

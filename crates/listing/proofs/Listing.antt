@@ -21,10 +21,11 @@ use Rattle.line.specs.declared.Line.{Line}
 use Rattle.line.specs.declared.Line.the-variants.{Statement, Objection}
 use Rattle.text.specs.Register.{Register, marksOf, objectorsOf, targetsOf, bytes, book}
 use Rattle.text.proofs.Order.{marks-counted}
-use Rattle.listing.specs.Listing.{lengthField, kindField, header, statementRow, objectionRow, statementRows, objectionRows, listing, IsListing}
-use Rattle.listing.specs.Room.{verdictFields, kindFields}
-use Rattle.listing.proofs.Digits.{four-digits}
-use Rattle.listing.proofs.Rows.{header-length, statement-length, objection-length}
+use Rattle.rows.specs.Rows.{lengthField, kindField, header, statementRow, objectionRow}
+use Rattle.rows.specs.Said.{verdictFields, kindFields}
+use Rattle.listing.specs.Listing.{statementRows, objectionRows, listing, IsListing}
+use Rattle.writing.proofs.Digits.{four-digits}
+use Rattle.rows.proofs.Rows.{header-length, statement-length, objection-length}
 use Rattle.text.specs.Reads.{Accepts}
 
 -- What a register's listing is, is not up to the program.

@@ -1,11 +1,10 @@
 -- What the numbers of labels and lengths say is what the statements and objections mean; so the rows by those numbers are
 -- the register's listing.
-use mathlib.Core.List.{List, _++_}
+use mathlib.Core.List.{List, _++_, map}
 use mathlib.Core.Path.{_≡_, refl, sym, ap, ap₂, _∙_, subst}
 use Prim.Native.Nat.{ℕ, _<_}
 use native.Mathlib.Omega.{arith}
 use lib.ListN.{length, getD, length-map}
-use lib.Seq.{take-all}
 use Rattle.game.specs.Book.{Book, Listed, Objects, bookOf}
 use Rattle.game.specs.Label.{Verdict, is-open, stands, falls, Means, labelNumber, lengthNumber, Told}
 use Rattle.game.specs.Objection.{kindOf, OfKind}
@@ -14,29 +13,16 @@ use Rattle.game.specs.declared.Kind.the-variants.{Idle}
 use Rattle.game.proofs.Verdict.{means-unique}
 use Rattle.game.proofs.Objection.{kind-exists}
 use Rattle.game.proofs.Lists.{objects-entry}
-use Rattle.line.specs.declared.StatementLine.{StatementLine}
+use Rattle.line.specs.declared.ObjectionLine.{ObjectionLine}
 use Rattle.text.specs.Register.{Register, numbers, objectorNumbers, targetNumbers, Issued, placeOf, marksOf, objectorsOf, targetsOf, book}
-use Rattle.text.specs.State.{Holds}
-use Rattle.text.proofs.Order.{marks-counted, objectors-counted, targets-counted, register-in-order}
-use Rattle.text.proofs.Steps.{place-is, objector-entry, target-entry}
+use Rattle.text.proofs.Order.{mapped, place-holds, numbers-counted, marks-counted, objectors-counted, register-in-order}
 use Rattle.solved.specs.Solved.{Ready}
-use Rattle.listing.specs.Listing.{header, objectionRow, statementRows, objectionRows, listing, IsListing}
-use Rattle.listing.specs.Room.{said, verdictAt, orIdle, kindAt, rowsTo, statementAt, objectionAt, statementPart, objectionPart, whole, Lists}
-use Rattle.listing.proofs.Rows.{rows-same, upTo, length-upTo, getD-upTo, statement-rows, objection-rows}
-use borrow.Author.Tests.{ne-eqb}
-
--- by label number
-pub said-falls : (l n : ℕ) → l ≡ 2 → said l n ≡ falls n
-unfolding said
-said-falls l n p = rw p
-
-pub said-stands : (l n : ℕ) → l ≡ 1 → said l n ≡ stands n
-unfolding said
-said-stands l n p = rw p
-
-pub said-open : (l n : ℕ) → (l ≡ 2 → ⊥) → (l ≡ 1 → ⊥) → said l n ≡ is-open
-unfolding said
-said-open l n p q = rw (ne-eqb l 2 p, ne-eqb l 1 q)
+use Rattle.rows.specs.Rows.{header, objectionRow}
+use Rattle.rows.specs.Said.{said}
+use Rattle.listing.specs.Listing.{statementRows, objectionRows, listing, IsListing}
+use Rattle.listing.specs.Parts.{verdictAt, orIdle, kindAt, rowsTo, statementAt, objectionAt, statementPart, objectionPart, whole, Lists}
+use Rattle.rows.proofs.Said.{said-falls, said-stands, said-open}
+use Rattle.listing.proofs.Parts.{rows-same, upTo, length-upTo, getD-upTo, statement-rows, objection-rows}
 
 told-said : (v : Verdict) (l n : ℕ) → l ≡ labelNumber v → n ≡ lengthNumber v → said l n ≡ v
 told-said is-open l n p q = said-open l n (λ e. omega arith) (λ e. omega arith)
@@ -86,9 +72,6 @@ module _ (nums marks objectors targets labels lengths : List ℕ) (given : Lists
 
 module _ (R : Register) (nums marks objectors targets labels lengths : List ℕ)
     (ready : Ready R nums marks objectors targets labels lengths) where
-  numbers-counted : length (numbers R) ≡ length (R .statements)
-  numbers-counted = length-map (R .statements) (λ (st : StatementLine). st .number)
-
   pub ready-lists : Lists nums marks objectors targets labels lengths
   ready-lists =
       rw (ready .made .numbers-are, ready .made .marks-are, ready .made .objectors-are, ready .made .targets-are) (record {
@@ -97,7 +80,7 @@ module _ (R : Register) (nums marks objectors targets labels lengths : List ℕ)
           few-pairs = omega (arith, objectors-counted R (ready .made .valid), ready .made .valid .few-objections);
           order = register-in-order R (ready .made .valid);
         };
-        numbered = numbers-counted ∙ sym (marks-counted R (ready .made .valid));
+        numbered = numbers-counted R ∙ sym (marks-counted R (ready .made .valid));
         labels-room = omega (arith, marks-counted R (ready .made .valid), ready .labels-room);
         lengths-room = omega (arith, marks-counted R (ready .made .valid), ready .lengths-room);
         labelled = ready .labelled;
@@ -106,36 +89,22 @@ module _ (R : Register) (nums marks objectors targets labels lengths : List ℕ)
   own : Lists (numbers R) (marksOf R) (objectorsOf R) (targetsOf R) labels lengths
   own = rw (ready .made .numbers-are, ready .made .marks-are, ready .made .objectors-are, ready .made .targets-are) at ready-lists
 
-  -- the number at an entry's place is the number on its line
-  holds : Holds R (length (R .statements)) (length (R .objections)) (numbers R) (marksOf R) (objectorsOf R) (targetsOf R)
-  holds = record {
-    statements = refl;
-    objections = refl;
-    numbers-are = take-all (length (R .statements)) (numbers R) (omega (arith, numbers-counted));
-    marks-are = take-all (length (R .statements)) (marksOf R) (omega (arith, marks-counted R (ready .made .valid)));
-    objectors-are = take-all (length (R .objections)) (objectorsOf R) (omega (arith, objectors-counted R (ready .made .valid)));
-    targets-are = take-all (length (R .objections)) (targetsOf R) (omega (arith, targets-counted R (ready .made .valid)));
-  }
-
-  at-place : (v : ℕ) → Issued R v → getD (numbers R) (placeOf (numbers R) v) 0 ≡ v
-  at-place v (i, l, e) =
-      ap (λ p. getD (numbers R) p 0) (place-is R (length (R .statements)) (length (R .objections)) (numbers R) (marksOf R)
-      (objectorsOf R) (targetsOf R) holds v i (omega (arith, numbers-counted), e)
-      (λ j k q. ready .made .valid .once j i k l (q ∙ sym e)))
-      ∙ e
+  -- the number at the place of an end of an objection is the number on its line
+  number-at : (nos : List ℕ) (k : ℕ) → k < length nos → Issued R (getD nos k 0)
+      → getD (numbers R) (getD (map (placeOf (numbers R)) nos) k 0) 0 ≡ getD nos k 0
+  number-at nos k h (i, l, e) =
+      ap (λ p. getD (numbers R) p 0) (mapped (placeOf (numbers R)) nos k h) ∙ place-holds (numbers R) (getD nos k 0) i l e
 
   objector-number : (k : ℕ) → k < length (R .objections) → getD (numbers R) (getD (objectorsOf R) k 0) 0 ≡ getD
       (objectorNumbers R) k 0
   objector-number k h =
-      ap (λ p. getD (numbers R) p 0) (objector-entry R (length (R .statements)) (length (R .objections)) (numbers R) (marksOf R)
-      (objectorsOf R) (targetsOf R) holds k h)
-      ∙ at-place (getD (objectorNumbers R) k 0) (ready .made .valid .known k h .0)
+      number-at (objectorNumbers R) k (omega (arith, length-map (R .objections) (λ (o : ObjectionLine). o .objector)))
+      (ready .made .valid .known k h .0)
 
   target-number : (k : ℕ) → k < length (R .objections) → getD (numbers R) (getD (targetsOf R) k 0) 0 ≡ getD (targetNumbers R) k 0
   target-number k h =
-      ap (λ p. getD (numbers R) p 0) (target-entry R (length (R .statements)) (length (R .objections)) (numbers R) (marksOf R)
-      (objectorsOf R) (targetsOf R) holds k h)
-      ∙ at-place (getD (targetNumbers R) k 0) (ready .made .valid .known k h .1)
+      number-at (targetNumbers R) k (omega (arith, length-map (R .objections) (λ (o : ObjectionLine). o .target)))
+      (ready .made .valid .known k h .1)
 
   abbrev vs : ℕ → Verdict
   vs = verdictAt labels lengths
@@ -161,7 +130,7 @@ module _ (R : Register) (nums marks objectors targets labels lengths : List ℕ)
   statements-same : statementPart (numbers R) labels lengths ≡ statementRows (R .statements) (upTo (length (R .statements)) vs)
   unfolding statementPart
   statements-same =
-      ap (λ n. rowsTo n (statementAt (numbers R) labels lengths)) numbers-counted ∙ sym (statement-rows (R .statements) vs)
+      ap (λ n. rowsTo n (statementAt (numbers R) labels lengths)) (numbers-counted R) ∙ sym (statement-rows (R .statements) vs)
 
   objections-same : objectionPart (numbers R) (objectorsOf R) (targetsOf R) labels lengths ≡ objectionRows (R .objections)
       (upTo (length (R .objections)) κs)
@@ -178,7 +147,7 @@ module _ (R : Register) (nums marks objectors targets labels lengths : List ℕ)
       (upTo (length (R .objections)) κs)
   unfolding whole
   whole-same =
-      ap₂ (λ a b. a ++ b) (ap₂ header numbers-counted (objectors-counted R (ready .made .valid)))
+      ap₂ (λ a b. a ++ b) (ap₂ header (numbers-counted R) (objectors-counted R (ready .made .valid)))
       (ap₂ (λ a b. a ++ b) statements-same objections-same)
 
   own-listing : IsListing R (whole (numbers R) (objectorsOf R) (targetsOf R) labels lengths)

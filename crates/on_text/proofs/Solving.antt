@@ -1,4 +1,5 @@
--- From what reading and labelling leave in rooms to what the text calls promise.
+-- From what reading and labelling leave in rooms to what the calls on a whole text promise. That the rooms hold the register and
+-- its labels is left to `solved`, the listing to `listing`.
 use mathlib.Core.Bool.{true, false}
 use mathlib.Core.List.{List, _++_}
 use mathlib.Core.Logic.{inr}

@@ -11,7 +11,7 @@ use Rattle.refusal.specs.declared.Refusal.the-variants.{Asked}
 use Rattle.text.specs.Register.{Register, Issued}
 use Rattle.text.specs.Reads.{Accepts}
 use Rattle.text.proofs.Unique as text
-use Rattle.listing.specs.Listing.{refusedRow}
+use Rattle.rows.specs.Rows.{refusedRow}
 use Rattle.answer.specs.declared.Answer.{Answer}
 use Rattle.solved.specs.Solved.{TextRefuses, Places}
 use Rattle.solved.proofs.Laws.{place-once}

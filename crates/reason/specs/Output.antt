@@ -11,7 +11,7 @@ use Rattle.refusal.specs.declared.Refusal.the-variants.{Asked}
 use Rattle.text.specs.Register.{Register, Issued}
 use Rattle.text.specs.Reads.{Accepts, Refuses}
 use Rattle.solved.specs.Solved.{Places}
-use Rattle.listing.specs.Listing.{refusedRow}
+use Rattle.rows.specs.Rows.{refusedRow}
 use Rattle.reasons.specs.Reasons.{IsReason}
 use Rattle.reason.specs.Asked.{Names}
 

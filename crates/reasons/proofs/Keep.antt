@@ -7,9 +7,10 @@ use native.Mathlib.Omega.{arith}
 use lib.ListN.{length, getD, length-append}
 use Rattle.game.specs.declared.Kind.{Kind}
 use Rattle.line.specs.declared.ObjectionLine.{ObjectionLine}
-use Rattle.listing.specs.Listing.{objectionRow, objectionRows}
-use Rattle.listing.specs.Room.{rowsTo}
-use Rattle.listing.proofs.Rows.{no-rows, row-first, upTo}
+use Rattle.rows.specs.Rows.{objectionRow}
+use Rattle.listing.specs.Listing.{objectionRows}
+use Rattle.listing.specs.Parts.{rowsTo}
+use Rattle.listing.proofs.Parts.{no-rows, row-first, upTo}
 use Rattle.alone.specs.Alone.{keep}
 
 -- fewer rows are no longer

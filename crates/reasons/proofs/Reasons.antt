@@ -19,10 +19,12 @@ use Rattle.alone.specs.Alone.{keep}
 use Rattle.alone.proofs.Keep.{keep-same, tests-same}
 use Rattle.answer.proofs.Promises.{through}
 use Rattle.solved.specs.Solved.{Ready}
-use Rattle.listing.specs.Listing.{statementRow, objectionRows}
-use Rattle.listing.specs.Room.{rowsTo, verdictAt, statementAt, kindAt}
-use Rattle.listing.proofs.Rows.{statement-small, rows-same, upTo, length-upTo, getD-upTo}
+use Rattle.rows.specs.Rows.{statementRow}
+use Rattle.listing.specs.Listing.{objectionRows}
+use Rattle.listing.specs.Parts.{rowsTo, verdictAt, statementAt, kindAt}
+use Rattle.rows.proofs.Rows.{statement-small}
 use Rattle.listing.proofs.Listing.{rows-bounded, text-length}
+use Rattle.listing.proofs.Parts.{rows-same, upTo, length-upTo, getD-upTo}
 use Rattle.listing.proofs.Told.{own-means, own-kind, own-row}
 use Rattle.reasons.specs.Reasons.{IsReason}
 use Rattle.reasons.specs.Rows.{hasTick, chosenAt, chosenPart, reasonRows}
@@ -106,5 +108,5 @@ module _ (R : Register) (nums marks objectors targets labels lengths : List ℕ)
   ready-reason l chosen =
       let valid : Valid R = ready .made .valid in
       rw (ready .made .numbers-are, ready .made .objectors-are, ready .made .targets-are)
-      (own-reason (omega (arith, ap length (ready .made .numbers-are), numbers-counted R valid, marks-counted R valid))
+      (own-reason (omega (arith, ap length (ready .made .numbers-are), numbers-counted R, marks-counted R valid))
       (rw (ready .made .marks-are, ready .made .objectors-are, ready .made .targets-are) at chosen))

@@ -9,10 +9,11 @@ use native.Mathlib.Omega.{arith}
 use lib.Dec.{T}
 use lib.ListN.{length, getD, drop, length-append}
 use borrow.Author.Tests.{eq-eqb, ne-eqb}
-use Rattle.listing.specs.Room.{Put, rowsTo, verdictAt, statementAt, objectionAt, kindAt}
-use Rattle.listing.proofs.Rows.{statement-small, objection-small, rows-small}
-use Rattle.listing.proofs.Room.{put-more}
-use Rattle.listing.proofs.Puts.{put-start}
+use Rattle.writing.specs.Writing.{Put}
+use Rattle.listing.specs.Parts.{rowsTo, verdictAt, statementAt, objectionAt, kindAt}
+use Rattle.writing.proofs.Writing.{put-more, put-start}
+use Rattle.rows.proofs.Rows.{statement-small, objection-small}
+use Rattle.listing.proofs.Parts.{rows-small}
 use Rattle.reasons.specs.Rows.{hasTick, chosenAt, chosenPart}
 
 module _ (nums objectors targets labels lengths inside : List ℕ) where

@@ -13,7 +13,8 @@ use Rattle.text.specs.Register.{Register, numbers, Issued, objectorsOf, targets
 use Rattle.text.specs.Reads.{Accepts}
 use Rattle.alone.specs.Alone.{keep, Chooses}
 use Rattle.solved.specs.Solved.{TextRefuses, Places}
-use Rattle.listing.specs.Listing.{statementRow, objectionRows}
+use Rattle.rows.specs.Rows.{statementRow}
+use Rattle.listing.specs.Listing.{objectionRows}
 use Rattle.refusal.specs.declared.Refusal.{Refusal}
 use Rattle.answer.specs.Answer.{Promised, Written, Asks}
 use Rattle.answer.specs.declared.Answer.{Answer}

@@ -11,7 +11,8 @@ ghost use Rattle.text.specs.Register.{Register};
 ghost use Rattle.text.specs.State.{Spacious};
 ghost use Rattle.text.specs.declared.Reading.the-variants.{Whole};
 ghost use Rattle.solved.specs.Solved.{Ready, SolvedText};
-ghost use Rattle.listing.specs.Room.{Fits, Put, Lists};
+ghost use Rattle.writing.specs.Writing.{Fits, Put};
+ghost use Rattle.listing.specs.Parts.{Lists};
 ghost use Rattle.reasons.specs.Reasons.{ReasonWritten, TextReason};
 ghost use Rattle.reasons.specs.Rows.{chosenPart, RowsWritten};
 
@@ -100,12 +101,12 @@ fn write_rows(
     ensures { λ a. ⌜ RowsWritten (now (numbers .entry)) (now (objectors .entry)) (now (targets .entry)) (now (labels .entry))
         (now (lengths .entry)) (now (inside .entry)) x (now (room .entry)) a (now (room .exit)) ⌝ }
 {
-    let size = listing::statement_size(numbers[x], labels[x], lengths[x])
+    let size = rows::statement_size(numbers[x], labels[x], lengths[x])
         + rows_size(numbers, marks, objectors, targets, labels, lengths, inside);
     if room.len() < size {
         return Answer::Refused(Refusal::Room);
     }
-    let end = listing::put_statement(room, 0, numbers[x], labels[x], lengths[x]);
+    let end = rows::put_statement(room, 0, numbers[x], labels[x], lengths[x]);
     put_rows(
         room,
         end,

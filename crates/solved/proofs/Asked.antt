@@ -22,7 +22,8 @@ module _ (R : Register) (nums marks objectors targets : List ℕ) (made : Made R
   lists-handed = rw (made .marks-are, made .objectors-are, made .targets-are) (register-handed R (made .valid))
 
   pub counted : length nums ≡ length marks
-  counted = ap length (made .numbers-are) ∙ numbers-counted R (made .valid) ∙ sym (ap length (made .marks-are))
+  counted =
+      ap length (made .numbers-are) ∙ numbers-counted R ∙ sym (marks-counted R (made .valid)) ∙ sym (ap length (made .marks-are))
 
   pub book-is : bookOf marks objectors targets ≡ book R
   book-is = rw (made .marks-are, made .objectors-are, made .targets-are) refl

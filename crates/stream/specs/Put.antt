@@ -4,7 +4,7 @@ use mathlib.Core.List.{List}
 use mathlib.Core.Path.{_≡_}
 use Prim.Native.Nat.{ℕ}
 use Rattle.refusal.specs.Numbers.{numberOf, placeOf}
-use Rattle.listing.specs.Listing.{refusedRow}
+use Rattle.rows.specs.Rows.{refusedRow}
 use Rattle.answer.specs.Answer.{Written}
 use Rattle.answer.specs.declared.Answer.{Answer}
 use Rattle.answer.specs.declared.Answer.the-variants.{Refused, Given}

@@ -54,7 +54,7 @@ pub fn put_answer(answer: Answer, room: &mut [u8]) -> usize
         Answer::Refused(refused) => {
             let number = refusal::number(refused);
             let place = refusal::place(refused);
-            listing::write_refusal(number, place, room)
+            rows::write_refusal(number, place, room)
         }
     }
 }

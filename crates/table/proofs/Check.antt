@@ -25,11 +25,12 @@ use Rattle.line.specs.Number.{decimal, decimalIn}
 use Rattle.line.specs.declared.Mark.the-variants.{Read, Unread}
 use Rattle.text.specs.Register.{Register, Issued, Valid, numbers, objectorNumbers, targetNumbers, objectorsOf, targetsOf, marksOf, book, written, bytes, placeOf}
 use Rattle.text.proofs.Order.{marks-counted, objectors-counted, register-in-order}
-use Rattle.listing.specs.Listing.{numbersRow, statementRow, statementRows, objectionRow, objectionRows, listing, IsListing}
-use Rattle.listing.specs.Room.{orIdle}
+use Rattle.rows.specs.Rows.{numbersRow, statementRow, objectionRow}
+use Rattle.listing.specs.Listing.{statementRows, objectionRows, listing, IsListing}
+use Rattle.listing.specs.Parts.{orIdle}
+use Rattle.listing.proofs.Parts.{upTo, length-upTo, getD-upTo}
 use Rattle.alone.specs.Alone.{keep}
 use Rattle.reasons.specs.Reasons.{IsReason}
-use Rattle.listing.proofs.Rows.{upTo, length-upTo, getD-upTo}
 use Rattle.table.specs.Table.{Row, lists, finishes, explains, Says, Every, ascii, table, reasons}
 use Rattle.text.specs.Reads.{Accepts}
 

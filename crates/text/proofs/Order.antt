@@ -1,6 +1,6 @@
 -- The lists that a register in order makes are in order themselves.
 use mathlib.Core.List.{List, [], _∷_, map}
-use mathlib.Core.Path.{_≡_, refl, sym, _∙_}
+use mathlib.Core.Path.{_≡_, refl, sym, ap, _∙_}
 use Prim.Native.Nat.{ℕ, zero, suc, _≤_, _<_}
 use native.Mathlib.Nat.{not-suc-le-zero, le-of-suc-le-suc}
 use native.Mathlib.Decide.{ℕ-discrete}
@@ -29,14 +29,40 @@ place-listed (a ∷ ns) v i l e = go (ℕ-discrete a v) i l e (λ j k q. place-l
     go (no p) zero l e f = absurd (p e)
     go (no p) (suc i) l e f = rw (ne-eqb a v p) (let h : placeOf ns v < length ns = f i (le-of-suc-le-suc l) e in omega arith)
 
+-- a number that is there stands at its place
+pub place-holds : (ns : List ℕ) (v i : ℕ) → i < length ns → getD ns i 0 ≡ v → getD ns (placeOf ns v) 0 ≡ v
+unfolding placeOf
+place-holds [] v i l e = absurd (not-suc-le-zero l)
+place-holds (a ∷ ns) v i l e = go (ℕ-discrete a v) i l e (λ j k q. place-holds ns v j k q)
+  where
+    go : Dec (a ≡ v) → (i : ℕ) → i < length (a ∷ ns) → getD (a ∷ ns) i 0 ≡ v
+        → ((j : ℕ) → j < length ns → getD ns j 0 ≡ v → getD ns (placeOf ns v) 0 ≡ v)
+        → getD (a ∷ ns) (pick (eqb a v) 0 (suc (placeOf ns v))) 0 ≡ v
+    go (yes p) i l e f = rw (eq-eqb a v p) p
+    go (no p) zero l e f = absurd (p e)
+    go (no p) (suc i) l e f = rw (ne-eqb a v p) (f i (le-of-suc-le-suc l) e)
+
+-- the place of a number is where it stands first
+pub place-first : (ns : List ℕ) (v y : ℕ) → y < length ns → getD ns y 0 ≡ v → ((i : ℕ) → i < y → getD ns i 0 ≡ v → ⊥)
+    → placeOf ns v ≡ y
+unfolding placeOf
+place-first [] v y l e f = absurd (not-suc-le-zero l)
+place-first (a ∷ ns) v zero l e f = rw (eq-eqb a v e) refl
+place-first (a ∷ ns) v (suc y) l e f =
+    rw (ne-eqb a v (f 0 (omega arith))) (ap suc (place-first ns v y (le-of-suc-le-suc l) e (λ i k. f (suc i) (omega arith))))
+
 -- an entry of a mapped list
 pub mapped : (f : ℕ → ℕ) (u : List ℕ) (i : ℕ) → i < length u → getD (map f u) i 0 ≡ f (getD u i 0)
 mapped f [] i k = absurd (not-suc-le-zero k)
 mapped f (a ∷ u) zero k = refl
 mapped f (a ∷ u) (suc i) k = mapped f u i (le-of-suc-le-suc k)
 
+-- as many numbers as statements
+pub numbers-counted : (R : Register) → length (numbers R) ≡ length (R .statements)
+numbers-counted R = length-map (R .statements) (λ (st : StatementLine). st .number)
+
 module _ (R : Register) (valid : Valid R) where
-  -- as many marks as numbers, and as many objectors and targets as objections
+  -- as many marks as statements, and as many objectors and targets as objections
   pub marks-counted : length (marksOf R) ≡ length (R .statements)
   marks-counted = length-map (R .statements) (λ (st : StatementLine). markNumber (st .mark))
 
@@ -48,11 +74,8 @@ module _ (R : Register) (valid : Valid R) where
   targets-counted =
       length-map (targetNumbers R) (placeOf (numbers R)) ∙ length-map (R .objections) (λ (o : ObjectionLine). o .target)
 
-  pub numbers-counted : length (numbers R) ≡ length (marksOf R)
-  numbers-counted = length-map (R .statements) (λ (st : StatementLine). st .number) ∙ sym marks-counted
-
   listed : (v : ℕ) → Issued R v → placeOf (numbers R) v < length (marksOf R)
-  listed v (i, l, e) = omega (arith, place-listed (numbers R) v i l e, numbers-counted)
+  listed v (i, l, e) = omega (arith, place-listed (numbers R) v i l e, numbers-counted R, marks-counted)
 
   low : (m : Mark) → markNumber m ≤ 1
   low Read = omega arith

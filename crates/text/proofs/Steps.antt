@@ -2,12 +2,11 @@
 use mathlib.Core.List.{List, [], _∷_, _++_, append-assoc, map, map-append}
 use mathlib.Core.Logic.{_⊎_, inl, inr}
 use mathlib.Core.Path.{_≡_, refl, sym, ap, _∙_}
-use Prim.Native.Nat.{ℕ, zero, suc, _+_, _<_}
-use native.Mathlib.Nat.{not-suc-le-zero, le-of-suc-le-suc}
-use native.Mathlib.Decide.{ℕ-discrete, decLt}
+use Prim.Native.Nat.{ℕ, _+_, _<_}
+use native.Mathlib.Nat.{not-suc-le-zero}
+use native.Mathlib.Decide.{decLt}
 use native.Mathlib.Numerals.{add-one}
 use native.Mathlib.Omega.{arith}
-use lib.Dec.{eqb}
 use lib.ListN.{length, getD, take, set, length-append, length-map, List·getD-append}
 use lib.Seq.{getD-append-add, take-suc-set, getD-take}
 use Rattle.line.specs.Number.{IsNumber}
@@ -16,9 +15,9 @@ use Rattle.line.specs.declared.StatementLine.{StatementLine}
 use Rattle.line.specs.declared.ObjectionLine.{ObjectionLine}
 use Rattle.line.specs.declared.Line.{Line}
 use Rattle.line.specs.declared.Line.the-variants.{Statement, Objection}
-use Rattle.text.specs.Register.{Register, numbers, objectorNumbers, targetNumbers, Issued, Has, Valid, lines, bytes, written, pick, placeOf}
+use Rattle.text.specs.Register.{Register, numbers, objectorNumbers, targetNumbers, Issued, Has, Valid, lines, bytes, written, placeOf}
 use Rattle.text.specs.State.{Holds, At, Absent, Ends}
-use borrow.Author.Tests.{eq-eqb, ne-eqb}
+use Rattle.text.proofs.Order.{mapped, place-holds, place-first}
 
 -- a register with no objections, one statement more, and one objection more
 abbrev pub bare : List StatementLine → Register
@@ -95,19 +94,6 @@ written-objection R o =
     ∙ ap bytes (sym (append-assoc (map Statement (R .statements)) (map Objection (R .objections)) (Objection o ∷ [])))
     ∙ bytes-append (lines R) (Objection o ∷ []) ∙ ap (λ u. bytes (lines R) ++ u) (one-line (Objection o))
 
--- a number that is there stands at its place
-place-holds : (ns : List ℕ) (v i : ℕ) → i < length ns → getD ns i 0 ≡ v → getD ns (placeOf ns v) 0 ≡ v
-unfolding placeOf
-place-holds [] v i l e = absurd (not-suc-le-zero l)
-place-holds (a ∷ ns) v i l e = go (ℕ-discrete a v) i l e (λ j k q. place-holds ns v j k q)
-  where
-    go : Dec (a ≡ v) → (i : ℕ) → i < length (a ∷ ns) → getD (a ∷ ns) i 0 ≡ v
-        → ((j : ℕ) → j < length ns → getD ns j 0 ≡ v → getD ns (placeOf ns v) 0 ≡ v)
-        → getD (a ∷ ns) (pick (eqb a v) 0 (suc (placeOf ns v))) 0 ≡ v
-    go (yes p) i l e f = rw (eq-eqb a v p) p
-    go (no p) zero l e f = absurd (p e)
-    go (no p) (suc i) l e f = rw (ne-eqb a v p) (f i (le-of-suc-le-suc l) e)
-
 -- A number is on the register exactly where it stands among the first n of the room.
 module _ (R : Register) (n m : ℕ) (nums marks objectors targets : List ℕ) (h : Holds R n m nums marks objectors targets) where
   counted : length (numbers R) ≡ n
@@ -122,15 +108,6 @@ module _ (R : Register) (n m : ℕ) (nums marks objectors targets : List ℕ) (h
   pub off-register : (v : ℕ) → Absent nums n v → ¬ Issued R v
   off-register v f (i, l, e) = let k : i < n = omega (arith, counted) in f i k (sym (number-at i k) ∙ e)
 
-  -- the place of a number is where it stands first
-  place-first : (ns : List ℕ) (v y : ℕ) → y < length ns → getD ns y 0 ≡ v → ((i : ℕ) → i < y → getD ns i 0 ≡ v → ⊥)
-      → placeOf ns v ≡ y
-  unfolding placeOf
-  place-first [] v y l e f = absurd (not-suc-le-zero l)
-  place-first (a ∷ ns) v zero l e f = rw (eq-eqb a v e) refl
-  place-first (a ∷ ns) v (suc y) l e f =
-      rw (ne-eqb a v (f 0 (omega arith))) (ap suc (place-first ns v y (le-of-suc-le-suc l) e (λ i k. f (suc i) (omega arith))))
-
   pub place-is : (v y : ℕ) → At nums n v y → Absent nums y v → placeOf (numbers R) v ≡ y
   place-is v y (l, e) f =
       place-first (numbers R) v y (omega (arith, counted)) (number-at y l ∙ e)
@@ -139,12 +116,7 @@ module _ (R : Register) (n m : ℕ) (nums marks objectors targets : List ℕ) (h
   -- the entries of the objections' rooms are the places of their numbers
   entry-at : (nos room : List ℕ) → take m room ≡ map (placeOf (numbers R)) nos → length nos ≡ m → (j : ℕ) → j < m
       → getD room j 0 ≡ placeOf (numbers R) (getD nos j 0)
-  entry-at nos room e c j l = sym (getD-take m room j 0 l) ∙ ap (λ u. getD u j 0) e ∙ mapped nos j (omega arith)
-    where
-      mapped : (u : List ℕ) (i : ℕ) → i < length u → getD (map (placeOf (numbers R)) u) i 0 ≡ placeOf (numbers R) (getD u i 0)
-      mapped [] i k = absurd (not-suc-le-zero k)
-      mapped (a ∷ u) zero k = refl
-      mapped (a ∷ u) (suc i) k = mapped u i (le-of-suc-le-suc k)
+  entry-at nos room e c j l = sym (getD-take m room j 0 l) ∙ ap (λ u. getD u j 0) e ∙ mapped (placeOf (numbers R)) nos j (omega arith)
 
   objectors-counted : length (objectorNumbers R) ≡ m
   objectors-counted = length-map (R .objections) (λ (o : ObjectionLine). o .objector) ∙ h .objections

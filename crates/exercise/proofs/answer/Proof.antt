@@ -48,7 +48,7 @@ falls-within-requires : tie.Need-falls-within-requires
 falls-within-requires c κs =
     let pre = c .before .before .before .before .before .before .before .before .before .before .before .before .pre in
     let chain = c .before .before .before .before .before .before .chain in (
-      (record { handed = pre .0; chained = chain .ensures; head-room = search needs; next-room = search needs }, pre .1, pre .2),
+      ((pre .0, record { chained = chain .ensures; head-room = search needs; next-room = search needs }), pre .1, pre .2),
       fresh-both _,
     )
 
@@ -72,7 +72,7 @@ stands-within-requires c κs =
     let pre = c .before .before .before .before .before .before .before .before .before .before .before .before .before .before .before .before .before .before .before .before .pre in
     let chain = c .before .before .before .before .before .before .before .before .before .before .before .before .before .before .chain in
     let falls-within = c .before .before .before .before .before .before .before .falls-within in (
-      (record { handed = pre .0; chained = chain .ensures; head-room = search needs; next-room = search needs }, pre .1, pre .2),
+      ((pre .0, record { chained = chain .ensures; head-room = search needs; next-room = search needs }), pre .1, pre .2),
       falls-within .ensures .1,
     )
 

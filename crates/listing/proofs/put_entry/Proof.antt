@@ -2,7 +2,7 @@
 use mathlib.Core.Path.{ap, subst}
 use native.Mathlib.Omega.{arith}
 use lib.ListN.{length}
-use Rattle.listing.specs.Room.{Put}
+use Rattle.writing.specs.Writing.{Put}
 use Rattle.listing.proofs.Told.{row-told}
 use borrow.Author.Needs.{needs}
 use Rattle.listing.proofs.put_entry.Statement.{statement}

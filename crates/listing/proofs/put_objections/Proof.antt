@@ -3,9 +3,10 @@ use mathlib.Core.Path.{_≡_, refl, sym, _∙_, subst}
 use Prim.Native.Nat.{_-_, _≤_}
 use native.Mathlib.Omega.{arith}
 use lib.ListN.{length}
-use Rattle.listing.specs.Room.{Fits, Put, rowsTo, objectionAt}
-use Rattle.listing.proofs.Room.{put-none}
-use Rattle.listing.proofs.Rows.{no-rows, objections-all}
+use Rattle.writing.specs.Writing.{Fits, Put}
+use Rattle.listing.specs.Parts.{rowsTo, objectionAt}
+use Rattle.writing.proofs.Writing.{put-none}
+use Rattle.listing.proofs.Parts.{no-rows, objections-all}
 use Rattle.listing.proofs.Puts.{row-put, rows-fit, row-fits}
 use borrow.Author.Needs.{needs}
 use Rattle.listing.proofs.put_objections.Statement.{statement}

@@ -3,9 +3,10 @@ use mathlib.Core.Path.{_≡_, refl, ap, _∙_, subst}
 use Prim.Native.Nat.{_+_, _-_, _≤_}
 use native.Mathlib.Omega.{arith}
 use lib.ListN.{length}
-use Rattle.listing.specs.Room.{Put, rowsTo, statementAt}
-use Rattle.listing.proofs.Room.{put-none}
-use Rattle.listing.proofs.Rows.{no-rows, rows-longer, rows-fewer, statements-all}
+use Rattle.writing.specs.Writing.{Put}
+use Rattle.listing.specs.Parts.{rowsTo, statementAt}
+use Rattle.writing.proofs.Writing.{put-none}
+use Rattle.listing.proofs.Parts.{no-rows, rows-longer, rows-fewer, statements-all}
 use Rattle.listing.proofs.Puts.{row-put}
 use borrow.Author.Needs.{needs}
 use Rattle.listing.proofs.put_statements.Statement.{statement}

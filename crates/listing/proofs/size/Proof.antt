@@ -1,8 +1,9 @@
 -- `size` adds up the three parts of the listing.
 use native.Mathlib.Omega.{arith}
 use lib.ListN.{length}
-use Rattle.listing.specs.Room.{whole}
-use Rattle.listing.proofs.Rows.{header-small, statement-part-small, objection-part-small, whole-length}
+use Rattle.listing.specs.Parts.{whole}
+use Rattle.rows.proofs.Rows.{header-small}
+use Rattle.listing.proofs.Parts.{statement-part-small, objection-part-small, whole-length}
 use Rattle.listing.proofs.Told.{ready-lists, ready-listing}
 use borrow.Author.Needs.{needs}
 use Rattle.listing.proofs.size.Statement.{statement}

@@ -1,8 +1,9 @@
 -- `write` puts the three parts of the listing one behind the other.
 use native.Mathlib.Omega.{arith}
-use Rattle.listing.specs.Room.{whole}
-use Rattle.listing.proofs.Rows.{whole-length}
-use Rattle.listing.proofs.Puts.{whole-put, put-start}
+use Rattle.listing.specs.Parts.{whole}
+use Rattle.writing.proofs.Writing.{put-start}
+use Rattle.listing.proofs.Parts.{whole-length}
+use Rattle.listing.proofs.Puts.{whole-put}
 use Rattle.listing.proofs.Told.{ready-lists, ready-listing}
 use borrow.Author.Needs.{needs}
 use Rattle.listing.proofs.write.Statement.{statement}

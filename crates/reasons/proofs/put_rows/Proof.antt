@@ -3,9 +3,10 @@ use mathlib.Core.Path.{_≡_, refl, sym, _∙_, subst}
 use Prim.Native.Nat.{_-_, _≤_}
 use native.Mathlib.Omega.{arith}
 use lib.ListN.{length}
-use Rattle.listing.specs.Room.{Fits, Put, rowsTo}
-use Rattle.listing.proofs.Room.{put-none}
-use Rattle.listing.proofs.Rows.{no-rows}
+use Rattle.writing.specs.Writing.{Fits, Put}
+use Rattle.listing.specs.Parts.{rowsTo}
+use Rattle.writing.proofs.Writing.{put-none}
+use Rattle.listing.proofs.Parts.{no-rows}
 use Rattle.listing.proofs.Puts.{row-put, rows-fit, row-fits}
 use Rattle.reasons.specs.Rows.{chosenAt}
 use Rattle.reasons.proofs.Rows.{chosen-row, passed-row, chosen-all}

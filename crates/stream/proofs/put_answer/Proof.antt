@@ -1,7 +1,7 @@
 -- `put_answer`: what was given stays as it lies; the line of a refusal had room, since the room keeps its length.
 use mathlib.Core.Path.{refl}
 use Rattle.refusal.specs.Numbers.{numberOf, placeOf}
-use Rattle.listing.specs.Listing.{refusedRow}
+use Rattle.rows.specs.Rows.{refusedRow}
 use Rattle.stream.proofs.Put.{put-row}
 use borrow.Author.Needs.{needs}
 use Rattle.stream.proofs.put_answer.Statement.{statement}

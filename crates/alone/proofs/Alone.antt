@@ -22,7 +22,7 @@ use Rattle.line.specs.declared.Line.{Line}
 use Rattle.line.specs.declared.Line.the-variants.{Statement, Objection}
 use Rattle.text.specs.Register.{Register, numbers, Issued, Valid, bytes, written, placeOf, marksOf, objectorsOf, targetsOf, book}
 use Rattle.text.specs.Reads.{Accepts}
-use Rattle.text.proofs.Order.{mapped, place-first, numbers-counted, marks-counted, objectors-counted}
+use Rattle.text.proofs.Order.{mapped, place-first, number-there, numbers-counted, marks-counted, objectors-counted}
 use Rattle.rows.specs.Rows.{statementRow}
 use Rattle.listing.specs.Listing.{IsListing}
 use Rattle.alone.specs.Alone.{keep, Alone}
@@ -70,8 +70,7 @@ module _ (R : Register) (valid : Valid R) where
 
     end-number : Known R end → (k : ℕ) → k < length (R .objections) → number R (endPlace R end k) ≡ endNumber R end k
     end-number known k h =
-        let (z, n, e) = known k h in
-        ap (number R) (end-place k z h (omega (arith, numbers-counted R)) e) ∙ e
+        number-there R (map end (R .objections)) k (omega (arith, length-map (R .objections) end)) (known k h)
 
 -- There is but one register of just the reason's lines.
 pub alone-once : (R : Register) (x : ℕ) (S S′ : Register) → Alone R x S → Alone R x S′ → S ≡ S′

@@ -1,6 +1,6 @@
 -- What the numbers of labels and lengths say is what the statements and objections mean; so the rows by those numbers are
 -- the register's listing.
-use mathlib.Core.List.{List, _++_, map}
+use mathlib.Core.List.{List, _++_}
 use mathlib.Core.Path.{_≡_, refl, sym, ap, ap₂, _∙_, subst}
 use Prim.Native.Nat.{ℕ, _<_}
 use native.Mathlib.Omega.{arith}
@@ -14,8 +14,8 @@ use Rattle.game.proofs.Verdict.{means-unique}
 use Rattle.game.proofs.Objection.{kind-exists}
 use Rattle.game.proofs.Lists.{objects-entry}
 use Rattle.line.specs.declared.ObjectionLine.{ObjectionLine}
-use Rattle.text.specs.Register.{Register, numbers, objectorNumbers, targetNumbers, Issued, placeOf, marksOf, objectorsOf, targetsOf, book}
-use Rattle.text.proofs.Order.{mapped, place-holds, numbers-counted, marks-counted, objectors-counted, register-in-order}
+use Rattle.text.specs.Register.{Register, numbers, objectorNumbers, targetNumbers, marksOf, objectorsOf, targetsOf, book}
+use Rattle.text.proofs.Order.{number-there, numbers-counted, marks-counted, objectors-counted, register-in-order}
 use Rattle.solved.specs.Solved.{Ready}
 use Rattle.rows.specs.Rows.{header, objectionRow}
 use Rattle.rows.specs.Said.{said}
@@ -89,21 +89,16 @@ module _ (R : Register) (nums marks objectors targets labels lengths : List ℕ)
   own : Lists (numbers R) (marksOf R) (objectorsOf R) (targetsOf R) labels lengths
   own = rw (ready .made .numbers-are, ready .made .marks-are, ready .made .objectors-are, ready .made .targets-are) at ready-lists
 
-  -- the number at the place of an end of an objection is the number on its line
-  number-at : (nos : List ℕ) (k : ℕ) → k < length nos → Issued R (getD nos k 0)
-      → getD (numbers R) (getD (map (placeOf (numbers R)) nos) k 0) 0 ≡ getD nos k 0
-  number-at nos k h (i, l, e) =
-      ap (λ p. getD (numbers R) p 0) (mapped (placeOf (numbers R)) nos k h) ∙ place-holds (numbers R) (getD nos k 0) i l e
-
+  -- the numbers at the places of the ends of an objection are those on its line
   objector-number : (k : ℕ) → k < length (R .objections) → getD (numbers R) (getD (objectorsOf R) k 0) 0 ≡ getD
       (objectorNumbers R) k 0
   objector-number k h =
-      number-at (objectorNumbers R) k (omega (arith, length-map (R .objections) (λ (o : ObjectionLine). o .objector)))
+      number-there R (objectorNumbers R) k (omega (arith, length-map (R .objections) (λ (o : ObjectionLine). o .objector)))
       (ready .made .valid .known k h .0)
 
   target-number : (k : ℕ) → k < length (R .objections) → getD (numbers R) (getD (targetsOf R) k 0) 0 ≡ getD (targetNumbers R) k 0
   target-number k h =
-      number-at (targetNumbers R) k (omega (arith, length-map (R .objections) (λ (o : ObjectionLine). o .target)))
+      number-there R (targetNumbers R) k (omega (arith, length-map (R .objections) (λ (o : ObjectionLine). o .target)))
       (ready .made .valid .known k h .1)
 
   abbrev vs : ℕ → Verdict

@@ -57,6 +57,12 @@ mapped f [] i k = absurd (not-suc-le-zero k)
 mapped f (a ∷ u) zero k = refl
 mapped f (a ∷ u) (suc i) k = mapped f u i (le-of-suc-le-suc k)
 
+-- the number at the place of an issued number is that number
+pub number-there : (R : Register) (nos : List ℕ) (k : ℕ) → k < length nos → Issued R (getD nos k 0)
+    → getD (numbers R) (getD (map (placeOf (numbers R)) nos) k 0) 0 ≡ getD nos k 0
+number-there R nos k h (i, l, e) =
+    ap (λ p. getD (numbers R) p 0) (mapped (placeOf (numbers R)) nos k h) ∙ place-holds (numbers R) (getD nos k 0) i l e
+
 -- as many numbers as statements
 pub numbers-counted : (R : Register) → length (numbers R) ≡ length (R .statements)
 numbers-counted R = length-map (R .statements) (λ (st : StatementLine). st .number)

@@ -78,12 +78,15 @@ static uint8_t *put(uint8_t *to, const void *from, size_t size) {
     return to + size;
 }
 
-/* The bytes of an array: an input's entries, or a room that starts with so many of its answer. */
+/* The bytes of an array: an input's entries, or a room, with what it holds if it holds something,
+ * that starts with so many of its answer. */
 static uint8_t *put_array(uint8_t *to, const struct array *array, size_t written) {
     size_t guard = array->is_room ? GUARD * array->width : 0;
     size_t size = array->len * array->width;
     memset(to, GUARD_BYTE, guard);
     memset(to + guard, ROOM_BYTE, size);
+    if (array->found != NULL)
+        put(to + guard, array->found, size);
     put(to + guard, array->entries, written * array->width);
     memset(to + guard + size, GUARD_BYTE, guard);
     return to + size + 2 * guard;
@@ -132,15 +135,21 @@ void hold(const struct request *request, batqemulo_answer right) {
 }
 
 void lend(struct request *request, size_t width, const void *entries, size_t len) {
-    struct array input = {width, len, entries, len, 0};
+    struct array input = {width, len, entries, len, 0, NULL};
     request->arrays[request->count++] = input;
 }
 
 int lend_room(struct request *request, size_t width, size_t len, const void *answer,
               size_t needed) {
-    struct array room = {width, len, answer, len < needed ? 0 : needed, 1};
+    struct array room = {width, len, answer, len < needed ? 0 : needed, 1, NULL};
     request->arrays[request->count++] = room;
     return len < needed;
+}
+
+void lend_held(struct request *request, size_t width, size_t len, const void *found,
+               const void *answer, size_t written) {
+    struct array room = {width, len, answer, written, 1, found};
+    request->arrays[request->count++] = room;
 }
 
 uint32_t dice(const uint8_t *bytes, size_t count) {

@@ -19,7 +19,9 @@ enum call {
     TEXT_LENGTHS = 21,
     LISTING = 22,
     TEXT_LINE = 23,
-    TEXT_EXERCISE = 24
+    TEXT_EXERCISE = 24,
+    SHEET = 26,
+    SHEET_UPDATE = 27
 };
 
 /* The most arrays that a call takes. */
@@ -34,6 +36,8 @@ struct array {
     /* how many of them: all of an input; of a room those of the answer, none after a refusal */
     size_t written;
     int is_room;
+    /* all entries of a room that holds something before the call; else NULL */
+    const void *found;
 };
 
 struct request {
@@ -53,6 +57,10 @@ void lend(struct request *request, size_t width, const void *entries, size_t len
 
 /* Adds a room of so many entries, for an answer of so many; answers whether it is too short. */
 int lend_room(struct request *request, size_t width, size_t len, const void *answer, size_t needed);
+
+/* Adds a room that holds so many entries; of the answer it gets so many. */
+void lend_held(struct request *request, size_t width, size_t len, const void *found,
+               const void *answer, size_t written);
 
 /* A number that the input alone decides, so that a finding can be run again. */
 uint32_t dice(const uint8_t *bytes, size_t count);

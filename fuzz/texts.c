@@ -1,6 +1,6 @@
 /* The fuzzer's target for register texts. Plain C reads and solves each text, instrumented, so that
- * its branches guide the fuzzer; then every call on the text is made of the library, and both must
- * agree. The reader of bench/ is included for what it keeps to itself. */
+ * its branches guide the fuzzer; then every call on the text but that for a reason is made of the
+ * library, and both must agree. The reader of bench/ is included for what it keeps to itself. */
 #include "../bench/plain_text.c"
 #include "library.h"
 #include "met.h"
@@ -108,6 +108,74 @@ static void hold_exercise(const uint8_t *text, size_t len, uint32_t thrown) {
     hold(&request, right);
 }
 
+/* A sheet and its totals, with space for a byte too many. */
+struct sheet {
+    uint8_t bytes[BATQEMULO_MAX_SHEET_BYTES + 1];
+    uint32_t totals[BATQEMULO_TOTALS];
+};
+
+static size_t sheet_size(size_t statements) {
+    return (statements + 3) / 4;
+}
+
+static void pack(struct sheet *sheet, const uint8_t *labels, size_t statements) {
+    memset(sheet, 0, sizeof *sheet);
+    for (size_t x = 0; x < statements; x++) {
+        sheet->bytes[x / 4] |= (uint8_t)(labels[x] << x % 4 * 2);
+        sheet->totals[labels[x]]++;
+    }
+}
+
+static void hold_sheet(const uint8_t *text, size_t len, size_t statements, uint32_t thrown) {
+    struct sheet sheet;
+    struct request request = {.call = SHEET};
+    batqemulo_answer right = plain.found;
+    size_t needed = sheet_size(statements), bytes = near(needed, thrown);
+    size_t totals = near(BATQEMULO_TOTALS, thrown >> 3);
+    pack(&sheet, plain.labels, statements);
+    if (right.refusal == BATQEMULO_ACCEPTED)
+        right = bytes < needed || totals < BATQEMULO_TOTALS ? answer(BATQEMULO_ROOM_TOO_SHORT, 0)
+                                                            : answer(BATQEMULO_ACCEPTED, needed);
+    int accepted = right.refusal == BATQEMULO_ACCEPTED;
+    lend(&request, 1, text, len);
+    lend_room(&request, 1, bytes, sheet.bytes, accepted ? needed : 0);
+    lend_room(&request, 4, totals, sheet.totals, accepted ? BATQEMULO_TOTALS : 0);
+    hold(&request, right);
+}
+
+/* Some sound sheet, or now and then one with a wrong total or a code 3. Answers its refusal. */
+static uint32_t old_sheet(struct sheet *old, size_t statements, uint32_t thrown) {
+    uint8_t labels[BATQEMULO_MAX_STATEMENTS];
+    for (size_t x = 0; x < statements; x++)
+        labels[x] = (uint8_t)((thrown >> x % 23) % 3);
+    pack(old, labels, statements);
+    if (thrown % 8 == 0)
+        old->totals[thrown / 8 % BATQEMULO_TOTALS]++;
+    else if (thrown % 8 == 1 && statements > 0)
+        old->bytes[0] |= 3;
+    else
+        return BATQEMULO_ACCEPTED;
+    return BATQEMULO_SHEET_UNSOUND;
+}
+
+static void hold_update(const uint8_t *text, size_t len, size_t statements, uint32_t thrown) {
+    struct sheet old, sheet;
+    struct request request = {.call = SHEET_UPDATE};
+    size_t size = sheet_size(statements), longer = thrown >> 8 & 1 & thrown >> 9;
+    uint32_t refusal = old_sheet(&old, statements, thrown);
+    batqemulo_answer right = plain.found;
+    pack(&sheet, plain.labels, statements);
+    if (right.refusal == BATQEMULO_ACCEPTED)
+        right = refusal != 0 || longer != 0 ? answer(BATQEMULO_SHEET_UNSOUND, 0)
+                                            : answer(BATQEMULO_ACCEPTED, size);
+    int accepted = right.refusal == BATQEMULO_ACCEPTED;
+    lend(&request, 1, text, len);
+    lend_held(&request, 1, size + longer, old.bytes, sheet.bytes, accepted ? size : 0);
+    lend_held(&request, 4, BATQEMULO_TOTALS, old.totals, sheet.totals,
+              accepted ? BATQEMULO_TOTALS : 0);
+    hold(&request, right);
+}
+
 int LLVMFuzzerTestOneInput(const uint8_t *text, size_t len) {
     uint32_t thrown = dice(text, len);
     size_t statements = 0;
@@ -120,5 +188,7 @@ int LLVMFuzzerTestOneInput(const uint8_t *text, size_t len) {
     hold_room(TEXT_LENGTHS, text, len, 2, plain.lengths, statements, thrown >> 6);
     hold_line(text, len, thrown >> 9);
     hold_exercise(text, len, thrown >> 9);
+    hold_sheet(text, len, statements, thrown >> 12);
+    hold_update(text, len, statements, thrown >> 15);
     return 0;
 }

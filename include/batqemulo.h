@@ -40,6 +40,12 @@ extern "C" {
 /* The most turns that the class exercise may be asked for. */
 #define BATQEMULO_MAX_TURNS 6
 
+/* A room of so many bytes has space for every sheet. */
+#define BATQEMULO_MAX_SHEET_BYTES 256
+
+/* So many totals go beside a sheet: of the statements that are open, that stand and that fall. */
+#define BATQEMULO_TOTALS 3
+
 /* The length of what has none: of an open statement, of an idle objection and of a standoff. Every
  * other length is at most BATQEMULO_MAX_STATEMENTS. */
 #define BATQEMULO_NO_LENGTH 65535
@@ -70,14 +76,15 @@ enum batqemulo_refusal {
     BATQEMULO_MARK_UNKNOWN = 12,       /* the entry: a mark other than 0 and 1 */
     BATQEMULO_PLACE_OUTSIDE = 13,      /* the entry: a place not below the number of marks */
     BATQEMULO_ASKED_UNKNOWN = 14,      /* the asked statement is not on the register */
-    BATQEMULO_TOO_MANY_TURNS = 15      /* more than BATQEMULO_MAX_TURNS asked */
+    BATQEMULO_TOO_MANY_TURNS = 15,     /* more than BATQEMULO_MAX_TURNS asked */
+    BATQEMULO_SHEET_UNSOUND = 16       /* the old sheet is not one of so many statements */
 };
 
 /* The marks that a caller hands over. Of an unread statement not every objection is known yet. */
 enum batqemulo_mark { BATQEMULO_READ = 0, BATQEMULO_UNREAD = 1 };
 
-/* The label of a statement, and what the class exercise answers of one: that it stands or falls
- * within the turns, or BATQEMULO_OPEN where it does neither. */
+/* The label of a statement, which is its code on a sheet too, and what the class exercise answers
+ * of one: that it stands or falls within the turns, or BATQEMULO_OPEN where it does neither. */
 enum batqemulo_label { BATQEMULO_OPEN = 0, BATQEMULO_STANDS = 1, BATQEMULO_FALLS = 2 };
 
 /* The kind of an objection. */
@@ -120,7 +127,8 @@ enum batqemulo_kind {
  *
  *   14  the asked number is on no statement line
  *   15  more than BATQEMULO_MAX_TURNS are asked
- *   10  the room is shorter than the answer
+ *   16  the old sheet is not one of a register of so many statements
+ *   10  a room is shorter than the answer
  */
 
 /* Writes the listing, which is a text too: lines ended by byte 10, fields parted by one tab.
@@ -146,6 +154,34 @@ batqemulo_answer batqemulo_text_labels(const uint8_t *text, size_t text_len, uin
  * Refusals: 1, 2, then 3 to 9 line by line, then 10. */
 batqemulo_answer batqemulo_text_lengths(const uint8_t *text, size_t text_len, uint16_t *lengths,
                                         size_t lengths_len);
+
+/* Writes the sheet: two bits for each statement, in the order of the statement lines, four to a
+ * byte, the first in the lowest bits. Their code is the label of the statement; 3 is unused. Spare
+ * bits of the last byte are 0. So the sheet has (statements + 3) / 4 bytes, at most
+ * BATQEMULO_MAX_SHEET_BYTES, and this is the answer's value. Beside it go BATQEMULO_TOTALS totals,
+ * taken from the sheet, in the order of the codes: how many statements are open, how many stand and
+ * how many fall.
+ * Refusals: 1, 2, then 3 to 9 line by line, then 10 if either room is too short. */
+batqemulo_answer batqemulo_sheet(const uint8_t *text, size_t text_len, uint8_t *sheet,
+                                 size_t sheet_len, uint32_t *totals, size_t totals_len);
+
+/* Updates a sheet and its totals, for a register of which marks or objections have changed, but not
+ * the number and order of its statements. The rooms hold the old sheet and the old totals; they get
+ * what batqemulo_sheet writes of the text, and the answer's value is the same. A byte without a
+ * changed label stays as found.
+ *
+ * The old sheet may come from any register; only what it is itself is looked at. Refusal 16 is for
+ *
+ *   a sheet_len that is not (statements + 3) / 4; a longer sheet is refused as well
+ *   a code 3
+ *   a set spare bit
+ *   a total, of the first BATQEMULO_TOTALS, that is not how often its code is on the old sheet;
+ *     where totals_len is less, those that are handed over are looked at
+ *
+ * Refusals: 1, 2, then 3 to 9 line by line, then 16, then 10 if totals_len is below
+ * BATQEMULO_TOTALS. */
+batqemulo_answer batqemulo_sheet_update(const uint8_t *text, size_t text_len, uint8_t *sheet,
+                                        size_t sheet_len, uint32_t *totals, size_t totals_len);
 
 /* Writes the line of argument of the statement with this number, as the numbers of the statements
  * on it: the asked statement itself, then, while the length is above 0, the objector of the last

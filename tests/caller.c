@@ -123,6 +123,11 @@ static batqemulo_answer call_on_text(struct request request, const struct array 
         return batqemulo_text_exercise(a[0].lent, a[0].len, request.statement, request.turns);
     case 25:
         return batqemulo_reason(a[0].lent, a[0].len, request.statement, a[1].lent, a[1].len);
+    case 26:
+        return batqemulo_sheet(a[0].lent, a[0].len, a[1].lent, a[1].len, a[2].lent, a[2].len);
+    case 27:
+        return batqemulo_sheet_update(a[0].lent, a[0].len, a[1].lent, a[1].len, a[2].lent,
+                                      a[2].len);
     }
     stop("a call on a text that is not there");
     return (batqemulo_answer){0, 0};

@@ -34,6 +34,9 @@ struct example {
     uint32_t numbers[MOST];
     /* the reason for it */
     const char *reason;
+    /* the sheet, which is one byte, and its totals */
+    uint8_t sheet;
+    uint32_t totals[BATQEMULO_TOTALS];
 };
 
 /* The game a, b, c, d, which are the places 0 to 3 and the numbers 101 to 104. */
@@ -58,6 +61,8 @@ static const struct example game = {
     {2, 3},
     {103, 104},
     "103\tfalls\t1\n104\t103\tfelling\t1\n",
+    0x60,
+    {2, 1, 1},
 };
 
 /* 4 against 3, 3 against 2, 2 against 1, and 1 is unread; they are the places 0 to 3 in this order.
@@ -82,6 +87,8 @@ static const struct example chain = {
     {3, 2, 1, 0},
     {1, 2, 3, 4},
     "1\tfalls\t3\n4\t3\tfelling\t1\n3\t2\tdelaying\t2\n2\t1\tfelling\t3\n",
+    0x99,
+    {0, 2, 2},
 };
 
 static unsigned passed, failed;
@@ -235,6 +242,49 @@ static void ask_reason(const struct example *e) {
     free(reason);
 }
 
+static int has_sheet(const struct example *e, const uint8_t *sheet, const uint32_t *totals) {
+    return sheet[0] == e->sheet && memcmp(totals, e->totals, sizeof e->totals) == 0;
+}
+
+/* The sheet in rooms that are just as long, then in the room that has space for every sheet, of
+ * which the rest stays as it was. */
+static void ask_sheet(const struct example *e) {
+    const uint8_t *text = (const uint8_t *)e->text;
+    size_t bytes = strlen(e->text);
+    uint8_t *sheet = room(1);
+    uint32_t *totals = room(sizeof e->totals);
+    batqemulo_answer answer = batqemulo_sheet(text, bytes, sheet, 1, totals, BATQEMULO_TOTALS);
+    check(e, "the sheet", accepted(answer, 1) && has_sheet(e, sheet, totals));
+    free(sheet);
+    sheet = room(BATQEMULO_MAX_SHEET_BYTES);
+    memset(sheet, 7, BATQEMULO_MAX_SHEET_BYTES);
+    memset(totals, 7, sizeof e->totals);
+    answer =
+        batqemulo_sheet(text, bytes, sheet, BATQEMULO_MAX_SHEET_BYTES, totals, BATQEMULO_TOTALS);
+    check(e, "the sheet in a large room", accepted(answer, 1) && has_sheet(e, sheet, totals));
+    check(e, "the rest of its room", all_are(sheet + 1, BATQEMULO_MAX_SHEET_BYTES - 1, 7));
+    free(totals);
+    free(sheet);
+}
+
+/* A sheet on which all is open is updated, and then once more, when nothing has changed. */
+static void update_sheet(const struct example *e) {
+    const uint8_t *text = (const uint8_t *)e->text;
+    size_t bytes = strlen(e->text);
+    uint8_t *sheet = room(1);
+    uint32_t *totals = room(sizeof e->totals);
+    sheet[0] = 0;
+    memset(totals, 0, sizeof e->totals);
+    totals[BATQEMULO_OPEN] = (uint32_t)e->statements;
+    batqemulo_answer answer =
+        batqemulo_sheet_update(text, bytes, sheet, 1, totals, BATQEMULO_TOTALS);
+    check(e, "the updated sheet", accepted(answer, 1) && has_sheet(e, sheet, totals));
+    answer = batqemulo_sheet_update(text, bytes, sheet, 1, totals, BATQEMULO_TOTALS);
+    check(e, "the sheet that stays", accepted(answer, 1) && has_sheet(e, sheet, totals));
+    free(totals);
+    free(sheet);
+}
+
 /* What is open gives itself alone, whatever the room. */
 static void ask_open_lines(const struct example *e) {
     uint32_t line[BATQEMULO_MAX_LINE_ENTRIES];
@@ -335,6 +385,32 @@ static void have_reason_refused(const struct example *e) {
     check(e, "no room for a reason", refused(answer, BATQEMULO_ROOM_TOO_SHORT, 0));
 }
 
+/* The text is refused before the old sheet, and the old sheet before the room. On the sheet every
+ * statement falls, one total is wrong, and all stays as it was. */
+static void have_sheet_refused(const struct example *e) {
+    const uint8_t *text = (const uint8_t *)e->text;
+    size_t bytes = strlen(e->text);
+    uint8_t sheet[] = {0xaa, 0};
+    uint32_t totals[] = {0, 0, 5}, right[] = {0, 0, 4};
+    const uint32_t as_found[] = {0, 0, 5};
+    batqemulo_answer answer = batqemulo_sheet_update(text, bytes - 1, sheet, 1, totals, 3);
+    check(e, "update by a text that is not ended", refused(answer, BATQEMULO_TEXT_NOT_ENDED, 0));
+    answer = batqemulo_sheet_update(text, bytes, sheet, 1, totals, 3);
+    check(e, "a wrong total", refused(answer, BATQEMULO_SHEET_UNSOUND, 0));
+    answer = batqemulo_sheet_update(text, bytes, sheet, 2, right, 3);
+    check(e, "a sheet that is too long", refused(answer, BATQEMULO_SHEET_UNSOUND, 0));
+    answer = batqemulo_sheet_update(text, bytes, NULL, 0, NULL, 0);
+    check(e, "no old sheet", refused(answer, BATQEMULO_SHEET_UNSOUND, 0));
+    answer = batqemulo_sheet_update(text, bytes, sheet, 1, totals, 2);
+    check(e, "two totals to update", refused(answer, BATQEMULO_ROOM_TOO_SHORT, 0));
+    answer = batqemulo_sheet(text, bytes, sheet, 0, totals, 3);
+    check(e, "a short room for the sheet", refused(answer, BATQEMULO_ROOM_TOO_SHORT, 0));
+    answer = batqemulo_sheet(text, bytes, sheet, 1, totals, 2);
+    check(e, "a short room for the totals", refused(answer, BATQEMULO_ROOM_TOO_SHORT, 0));
+    check(e, "the sheet after refusals", sheet[0] == 0xaa && sheet[1] == 0);
+    check(e, "the totals after refusals", memcmp(totals, as_found, sizeof totals) == 0);
+}
+
 /* Where every length is 0, every pointer may be NULL. */
 static void ask_of_nothing(void) {
     static const struct example nothing = {.name = "the empty register"};
@@ -352,8 +428,27 @@ static void ask_of_nothing(void) {
                   BATQEMULO_ASKED_UNKNOWN, 0));
     check(&nothing, "no reason",
           refused(batqemulo_reason(NULL, 0, 1, NULL, 0), BATQEMULO_ASKED_UNKNOWN, 0));
+    check(&nothing, "no room for its totals",
+          refused(batqemulo_sheet(NULL, 0, NULL, 0, NULL, 0), BATQEMULO_ROOM_TOO_SHORT, 0));
+    check(&nothing, "no totals to update",
+          refused(batqemulo_sheet_update(NULL, 0, NULL, 0, NULL, 0), BATQEMULO_ROOM_TOO_SHORT, 0));
     check(&nothing, "no exercise",
           refused(batqemulo_text_exercise(NULL, 0, 1, 0), BATQEMULO_ASKED_UNKNOWN, 0));
+}
+
+/* Its sheet has no bytes, but totals. */
+static void ask_sheet_of_nothing(void) {
+    static const struct example nothing = {.name = "the empty register"};
+    uint32_t totals[] = {7, 7, 7};
+    uint8_t empty[] = {7};
+    batqemulo_answer answer = batqemulo_sheet(NULL, 0, NULL, 0, totals, 3);
+    check(&nothing, "the sheet", accepted(answer, 0) && (totals[0] | totals[1] | totals[2]) == 0);
+    answer = batqemulo_sheet_update(NULL, 0, NULL, 0, totals, 3);
+    check(&nothing, "the updated sheet", accepted(answer, 0));
+    answer = batqemulo_sheet_update(NULL, 0, empty, 0, totals, 3);
+    check(&nothing, "a room of no bytes", accepted(answer, 0) && empty[0] == 7);
+    answer = batqemulo_sheet_update(NULL, 0, empty, 1, totals, 3);
+    check(&nothing, "a byte too many", refused(answer, BATQEMULO_SHEET_UNSOUND, 0));
 }
 
 int main(void) {
@@ -366,14 +461,18 @@ int main(void) {
         ask_listing(examples[i]);
         ask_line(examples[i]);
         ask_reason(examples[i]);
+        ask_sheet(examples[i]);
+        update_sheet(examples[i]);
         ask_open_lines(examples[i]);
         ask_exercise(examples[i]);
         be_refused(examples[i]);
         have_text_refused(examples[i]);
         have_asked_refused(examples[i]);
         have_reason_refused(examples[i]);
+        have_sheet_refused(examples[i]);
     }
     ask_of_nothing();
+    ask_sheet_of_nothing();
     printf("%u passed, %u failed\n", passed, failed);
     return failed == 0 ? 0 : 1;
 }

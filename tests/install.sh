@@ -139,7 +139,7 @@ same_calls() {
 
 # those of the refusals, of marks, labels and kinds, and the limits
 same_numbers() {
-    numbers | said $((16 + 2 + 3 + 4 + 7))
+    numbers | said $((17 + 2 + 3 + 4 + 9))
 }
 
 # no_others: the man page has no name for a number that the header lacks

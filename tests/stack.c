@@ -25,6 +25,10 @@ static uint16_t lengths[STATEMENTS];
 static uint32_t line[STATEMENTS];
 static batqemulo_answer answer;
 
+/* A sheet on which all is open, to be updated. */
+static uint8_t sheet[BATQEMULO_MAX_SHEET_BYTES];
+static uint32_t totals[BATQEMULO_TOTALS] = {STATEMENTS, 0, 0};
+
 static void make_chain(void) {
     for (uint32_t x = 1; x < STATEMENTS; x++) {
         objectors[x - 1] = x;
@@ -83,6 +87,14 @@ static void reason(void) {
     answer = batqemulo_reason(TEXT, 1, bytes, sizeof bytes);
 }
 
+static void fresh_sheet(void) {
+    answer = batqemulo_sheet(TEXT, bytes, sizeof bytes, line, STATEMENTS);
+}
+
+static void sheet_update(void) {
+    answer = batqemulo_sheet_update(TEXT, sheet, sizeof sheet, totals, BATQEMULO_TOTALS);
+}
+
 /* Stacks grow downwards: what was used reaches from its end down to the last byte without paint. */
 static size_t used(void (*call)(void)) {
     size_t clean = 0;
@@ -111,6 +123,8 @@ int main(void) {
                  {"lengths of a text", text_lengths, 72},
                  {"exercise on a text", text_exercise, 72},
                  {"listing", listing, 72},
+                 {"sheet", fresh_sheet, 72},
+                 {"update of a sheet", sheet_update, 72},
                  {"reason", reason, 80},
                  {"line in lists", pairs_line, 256},
                  {"line in a text", text_line, 256}};

@@ -35,6 +35,10 @@ module _ {Rooms : Type 0} (refuses : Refusal → Type 0) (gives : ℕ → Rooms 
       due (Refused r′) p q = ap Refused (one r′ r (p .0) q)
       due (Given n) p q = absurd (apart r n after q p)
 
+-- refusals of different numbers are different
+pub number-clash : (r r′ : Refusal) → (numberOf r ≡ numberOf r′ → ⊥) → r ≡ r′ → ⊥
+number-clash r r′ n e = n (ap numberOf e)
+
 -- 14, 15 and 10 are given exactly when something holds
 pub record Exactly (asked turns room : Type 0) (a : Answer) : Type 0 where
   pub fourteen : (a ≡ Refused Asked) ↔ asked
@@ -63,9 +67,6 @@ module _ (there : Type 0) (turns : ℕ) (short : Type 0) where
   asks-none r (inr (inr p)) t h n = n (p .2 .0)
 
   -- what each of the three numbers says
-  number-clash : (r r′ : Refusal) → (numberOf r ≡ numberOf r′ → ⊥) → r ≡ r′ → ⊥
-  number-clash r r′ n e = n (ap numberOf e)
-
   pub asks-14 : Asks there turns short Asked ↔ (¬ there)
   asks-14 = (to, λ n. inl (n, refl))
     where

@@ -9,13 +9,11 @@ use Rattle.game.proofs.Line.{line-unique}
 use Rattle.exercise.specs.Exercise.{Answered}
 use Rattle.exercise.proofs.Exercise.{answered-once}
 use Rattle.text.specs.Register.{Register, numbers, Issued, book}
-use Rattle.text.proofs.Unique as text
 use Rattle.refusal.specs.declared.Refusal.{Refusal}
 use Rattle.answer.specs.Answer.{Asks}
 use Rattle.answer.specs.declared.Answer.{Answer}
-use Rattle.answer.proofs.Promises.{promised-unique, Exactly, asks-once, asks-none}
-use Rattle.solved.specs.Solved.{TextRefuses}
-use Rattle.solved.proofs.Laws.{place-once, text-once, text-apart}
+use Rattle.answer.proofs.Promises.{Exactly, asks-once, asks-none}
+use Rattle.solved.proofs.Laws.{place-once, text-unique}
 use Rattle.solved.proofs.Lists.{asked-exactly, list-apart, list-unique}
 use Rattle.asked.specs.Asked.{byNumber, LineIn, LineShort, TextLine, ExerciseIn, TextExercise}
 use Rattle.text.specs.Reads.{Accepts}
@@ -39,33 +37,23 @@ module _ (s : List ℕ) where
     unique-text-line = list-unique s number LineOf line-of-once byNumber as-many
 
     module _ (turns : ℕ) where
-      exercise-apart : (r : Refusal) (n : ℕ) (after : Unit {0}) → TextRefuses s (λ R. Asks (Issued R number) turns ⊥) r
-          → (R : Register) × Accepts s R × ExerciseIn R number turns n after → ⊥
-      exercise-apart r n after p (R, a, (few, (x, h, is))) =
-          text-apart s (λ R. Asks (Issued R number) turns ⊥) r R p a
-          (λ q. asks-none (Issued R number) turns ⊥ r q (x, h .0, h .1) few (λ z. z))
+      exercise-apart : (R : Register) → Accepts s R → (r : Refusal) (n : ℕ) (after : Unit {0})
+          → Asks (Issued R number) turns ⊥ r → ExerciseIn R number turns n after → ⊥
+      exercise-apart R a r n after q (few, (x, h, is)) =
+          asks-none (Issued R number) turns ⊥ r q (x, h .0, h .1) few (λ z. z)
 
       pub unique-text-exercise : (a a′ : Answer) → TextExercise s number turns a → TextExercise s number turns a′ → a ≡ a′
       unique-text-exercise a a′ p q =
-          promised-unique (TextRefuses s later) Gives (text-once s later (λ R. asks-once
-          (Issued R number) turns ⊥)) exercise-apart
-          same tt a a′ tt tt p q .0
+          text-unique s (λ R. Asks (Issued R number) turns ⊥) (λ R. ExerciseIn R number turns)
+          (λ R. asks-once (Issued R number) turns ⊥) exercise-apart same tt a a′ tt tt p q .0
         where
-          later : Register → Refusal → Type 0
-          later R = Asks (Issued R number) turns ⊥
-
-          Gives : ℕ → Unit {0} → Type 0
-          Gives n after = (R : Register) × Accepts s R × ExerciseIn R number turns n after
-
-          one : (R : Register) → Accepts s R → (n n′ : ℕ) → ExerciseIn R number turns n tt → ExerciseIn R number turns n′ tt
-              → n ≡ n′
-          one R a n n′ (few, (x, h, is)) (few′, (x′, h′, is′)) =
-              answered-once (book R) x turns n n′ is (subst (λ i. Answered (book R) i turns n′)
-              (place-once R (a .valid) number x′ x h′ h) is′)
-
-          same : (n n′ : ℕ) (after after′ : Unit {0}) → Gives n after → Gives n′ after′ → (n ≡ n′) × (after ≡ after′)
-          same n n′ after after′ (R, a, g) (R′, a′, g′) =
-              (one R a n n′ g (subst (λ T. ExerciseIn T number turns n′ tt) (text.accepts-once s R′ R a′ a) g′), refl)
+          same : (R : Register) → Accepts s R → (n n′ : ℕ) (after after′ : Unit {0}) → ExerciseIn R number turns n after
+              → ExerciseIn R number turns n′ after′ → (n ≡ n′) × (after ≡ after′)
+          same R a n n′ after after′ (few, (x, h, is)) (few′, (x′, h′, is′)) = (
+            answered-once (book R) x turns n n′ is (subst (λ i. Answered (book R) i turns n′)
+                (place-once R (a .valid) number x′ x h′ h) is′),
+            refl,
+          )
 
   -- 14, 15 and 10, each given exactly when 01 says
   pub exactly-text-line : (number : ℕ) (room : List ℕ) (a : Answer) (after : List ℕ) → TextLine s number room a after
@@ -73,7 +61,7 @@ module _ (s : List ℕ) where
       ((R : Register) × Accepts s R × (Issued R number × (0 ≤ 6) × LineShort R number room)) a
   exactly-text-line number room =
       asked-exactly s number 0 (λ R. LineShort R number room)
-      (λ n after. (R : Register) × Accepts s R × LineIn R number room n after)
+      (λ R. LineIn R number room)
       (list-apart s number LineOf line-of-once byNumber as-many room) room
 
   pub exactly-text-exercise : (number turns : ℕ) (a : Answer) → TextExercise s number turns a
@@ -81,5 +69,5 @@ module _ (s : List ℕ) where
       ((R : Register) × Accepts s R × (Issued R number × (6 < turns)))
       ((R : Register) × Accepts s R × (Issued R number × (turns ≤ 6) × ⊥)) a
   exactly-text-exercise number turns a =
-      asked-exactly s number turns (λ R. ⊥) (λ n after. (R : Register) × Accepts s R × ExerciseIn R number turns n after)
+      asked-exactly s number turns (λ R. ⊥) (λ R. ExerciseIn R number turns)
       (exercise-apart number turns) tt a tt

@@ -11,6 +11,8 @@ use Rattle.asked.specs.Asked.{TextLine, TextExercise}
 use Rattle.asked.proofs.Unique.{unique-text-line, unique-text-exercise}
 use Rattle.reasons.specs.Reasons.{TextReason}
 use Rattle.reasons.proofs.Unique.{unique-text-reason}
+use Rattle.sheets.specs.Sheets.{TextSheet, TextSheetUpdate}
+use Rattle.sheets.proofs.Unique.{unique-text-sheet, unique-text-sheet-update}
 use Rattle.batqemulo.specs.InC.{inC, InC}
 use Rattle.batqemulo.specs.declared.CAnswer.{CAnswer}
 
@@ -75,6 +77,14 @@ pub unique-batqemulo-reason : (s : List ℕ) (number : ℕ) (room : List ℕ) (c
     → InC (λ a. TextReason s number room a after) c → InC (λ a. TextReason s number room a after′) c′ → (c ≡ c′) ×
     (after ≡ after′)
 unique-batqemulo-reason s number room = in-c-unique (TextReason s number room) (unique-text-reason s number room)
+
+pub unique-batqemulo-sheet : (s : List ℕ) (rooms : List ℕ × List ℕ) (c c′ : CAnswer) (after after′ : List ℕ × List ℕ)
+    → InC (λ a. TextSheet s rooms a after) c → InC (λ a. TextSheet s rooms a after′) c′ → (c ≡ c′) × (after ≡ after′)
+unique-batqemulo-sheet s rooms = in-c-unique (TextSheet s rooms) (unique-text-sheet s rooms)
+
+pub unique-batqemulo-sheet-update : (s : List ℕ) (rooms : List ℕ × List ℕ) (c c′ : CAnswer) (after after′ : List ℕ × List ℕ)
+    → InC (λ a. TextSheetUpdate s rooms a after) c → InC (λ a. TextSheetUpdate s rooms a after′) c′ → (c ≡ c′) × (after ≡ after′)
+unique-batqemulo-sheet-update s rooms = in-c-unique (TextSheetUpdate s rooms) (unique-text-sheet-update s rooms)
 
 -- the calls that lend no room
 one-answer : (P : Answer → Type 0) → ((a a′ : Answer) → P a → P a′ → a ≡ a′) → (c c′ : CAnswer) → InC P c → InC P c′ → c ≡ c′

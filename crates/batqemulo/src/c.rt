@@ -7,6 +7,7 @@ ghost use Rattle.on_lists.specs.Lists.{PairsLabels, PairsLengths, PairsKinds, M
 ghost use Rattle.on_text.specs.Texts.{TextLabels, TextLengths, TextListing};
 ghost use Rattle.asked.specs.Asked.{TextLine, TextExercise};
 ghost use Rattle.reasons.specs.Reasons.{TextReason};
+ghost use Rattle.sheets.specs.Sheets.{TextSheet, TextSheetUpdate};
 
 fn in_c(answer: Answer) -> CAnswer
     ensures { λ c. ⌜ c ≡ inC answer ⌝ }
@@ -166,4 +167,26 @@ pub extern "C" fn batqemulo_reason(text: &[u8], number: u32, room: &mut [u8]) ->
     ensures { λ c. ⌜ InC (λ a. TextReason (now (text .entry)) number (now (room .entry)) a (now (room .exit))) c ⌝ }
 {
     in_c(reasons::text_reason(text, number, room))
+}
+
+// The label sheet of a text, and its totals.
+#[no_mangle]
+pub extern "C" fn batqemulo_sheet(text: &[u8], sheet: &mut [u8], totals: &mut [u32]) -> CAnswer
+    ensures { λ c. ⌜ InC (λ a. TextSheet (now (text .entry)) (now (sheet .entry), now (totals .entry)) a
+        (now (sheet .exit), now (totals .exit))) c ⌝ }
+{
+    in_c(sheets::text_sheet(text, sheet, totals))
+}
+
+// An old sheet, updated from a text.
+#[no_mangle]
+pub extern "C" fn batqemulo_sheet_update(
+    text: &[u8],
+    sheet: &mut [u8],
+    totals: &mut [u32],
+) -> CAnswer
+    ensures { λ c. ⌜ InC (λ a. TextSheetUpdate (now (text .entry)) (now (sheet .entry), now (totals .entry)) a
+        (now (sheet .exit), now (totals .exit))) c ⌝ }
+{
+    in_c(sheets::text_sheet_update(text, sheet, totals))
 }

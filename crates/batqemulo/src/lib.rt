@@ -1,5 +1,5 @@
 // The product: what other Rattle programs call is named here, and what C calls is in `c`. None of it asks anything of its
-// caller. The calls themselves are in `on_lists`, `on_text`, `asked` and `reasons`.
+// caller. The calls themselves are in `on_lists`, `on_text`, `asked`, `reasons` and `sheets`.
 pub mod c;
 
 pub use answer::Answer;
@@ -16,6 +16,8 @@ pub use on_text::text_labels;
 pub use on_text::text_lengths;
 pub use on_text::text_listing;
 pub use reasons::text_reason;
+pub use sheets::text_sheet;
+pub use sheets::text_sheet_update;
 
 // The answer as C gets it: `refusal` is 0 where the call is accepted, else 01's number with its place as `value`.
 #[repr(C)]

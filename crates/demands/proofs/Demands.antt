@@ -1,6 +1,6 @@
 -- The promises of the public calls meet the three demands.
 use mathlib.Core.List.{List}
-use mathlib.Core.Logic.{_⊎_, inl, inr, ⊎-elim}
+use mathlib.Core.Logic.{inl, inr, ⊎-elim}
 use mathlib.Core.Path.{_≡_, refl, sym, _∙_, ap, subst, subst₂}
 use Prim.Native.Nat.{ℕ, _≤_, _<_}
 use native.Mathlib.Omega.{arith}
@@ -37,6 +37,9 @@ use Rattle.asked.specs.Asked.{byNumber, ExerciseIn, TextLine, TextExercise}
 use Rattle.asked.proofs.Unique.{unique-text-exercise}
 use Rattle.reasons.specs.Reasons.{IsReason, TextReason}
 use Rattle.reasons.proofs.Reasons.{reason-once}
+use Rattle.sheet.specs.Sheet.{codeAt, bytesFor, codes, IsSheet}
+use Rattle.sheets.specs.Sheets.{SheetShort, OldSheet, UpdateRefused, TextSheet, TextSheetUpdate}
+use Rattle.sheets.proofs.Unique.{unique-text-sheet, unique-text-sheet-update}
 use Rattle.batqemulo.specs.Demands.{Settled, Answers, LabelSays, LengthSays, KindSays}
 use Rattle.demands.proofs.Says.{label-says, length-says, kind-says}
 use Rattle.text.specs.Reads.{Accepts}
@@ -215,6 +218,28 @@ module _ (s : List ℕ) where
       → length l ≤ length room)) (reads.Refuses s) (TextReason s number room) room
   text-reason-answers number room = list-answers number IsReason reason-once (λ R l. l) (λ R l. refl) room
 
+  pub text-sheet-answers : (rooms : List ℕ × List ℕ) → Answers
+      ((R : Register) × Accepts s R × (bytesFor (book R .size) ≤ length (rooms .0)) × (codes ≤ length (rooms .1)))
+      (reads.Refuses s) (TextSheet s rooms) rooms
+  text-sheet-answers rooms =
+      answers _ _ (reads.Refuses s)
+      ((R : Register) × Accepts s R × (bytesFor (book R .size) ≤ length (rooms .0)) × (codes ≤ length (rooms .1))) rooms
+      (λ a a′ after after′ p q. unique-text-sheet s rooms a a′ after after′ p q .0) (λ r. inl)
+      (λ r p f. text-apart s (λ R. Short (SheetShort (book R) rooms)) r (f .0) p (f .1)
+      (λ h. ⊎-elim (λ l. omega (arith, l, f .2)) (λ l. omega (arith, l, f .3)) (h .0)))
+      (λ n after (R, a, (l, is, w, t)). (R, a, omega (arith, w .1, is .size), t .fits))
+
+  pub text-sheet-update-answers : (rooms : List ℕ × List ℕ) → Answers
+      ((R : Register) × Accepts s R × OldSheet (book R) rooms × (codes ≤ length (rooms .1))) (reads.Refuses s)
+      (TextSheetUpdate s rooms) rooms
+  text-sheet-update-answers rooms =
+      answers _ _ (reads.Refuses s)
+      ((R : Register) × Accepts s R × OldSheet (book R) rooms × (codes ≤ length (rooms .1))) rooms
+      (λ a a′ after after′ p q. unique-text-sheet-update s rooms a a′ after after′ p q .0) (λ r. inl)
+      (λ r p f. text-apart s (λ R. UpdateRefused (book R) rooms) r (f .0) p (f .1)
+      (⊎-elim (λ h. h .0 (f .2)) (λ h. omega (arith, h .1 .0, f .3))))
+      (λ n after (R, a, (old, (l, is, w, t))). (R, a, old, t .fits))
+
   pub text-exercise-answers : (number turns : ℕ) → Answers {Rooms = Unit {0}}
       ((R : Register) × Accepts s R × Issued R number × (turns ≤ 6)) (reads.Refuses s) (λ a after. TextExercise s number turns a)
       tt
@@ -326,6 +351,14 @@ module _ (s : List ℕ) where
         length-says (book R) x g (i .verdict) (i .means),
         λ k h. kind-says (book R) (getD (objectorsOf R) k 0) (getD (targetsOf R) k 0) (getD (i .kinds) k Idle) (i .of-kind k h),
       )
+
+  -- and so are the codes on a sheet
+  pub sheet-says : (R : Register) (l : List ℕ) → Accepts s R → IsSheet (book R) l → (x : ℕ) → x < length (R .statements)
+      → LabelSays (book R) x (codeAt l x)
+  unfolding bookOf
+  sheet-says R l a is x h =
+      let g : Listed (book R) x = omega (arith, marks-counted R (a .valid)) in
+      let (v, m, e) = is .each x g in subst (LabelSays (book R) x) (sym e) (label-says (book R) x g v m)
 
   -- "The program issues no numbers": those that a line has, and those of a listing's objections, are statement lines' numbers
   pub line-issues-none : (number : ℕ) (room : List ℕ) (n : ℕ) (after : List ℕ) → TextLine s number room (Given n) after

@@ -6,11 +6,8 @@ use Prim.Native.Nat.{ℕ, zero, suc, _≤_, _<_}
 use native.Mathlib.Nat.{not-suc-le-zero}
 use native.Mathlib.Omega.{arith}
 use lib.Dec.{T}
+use Rattle.game.specs.Book.{count}
 use Rattle.game.proofs.Search.{below-suc}
-
-pub count : ℕ → (ℕ → Bool) → ℕ
-count zero p = 0
-count (suc n) p = cond (p n) (suc (count n p)) (count n p)
 
 pub count-le : (n : ℕ) (p : ℕ → Bool) → count n p ≤ n
 unfolding count

@@ -1,11 +1,22 @@
--- Laws of searches: a search goes on by one, ends here or ends with none; and the first of what can be decided is one.
+-- Laws of questions and searches: what was answered; a search goes on by one, ends here or ends with none; and the first of what
+-- can be decided is one.
+use mathlib.Core.Bool.{Bool, true, false, not}
 use mathlib.Core.Logic.{_⊎_, inl, inr}
 use mathlib.Core.Path.{_≡_}
 use Prim.Native.Nat.{ℕ, zero, suc, _+_, _≤_, _<_}
 use native.Mathlib.Nat.{not-suc-le-zero}
 use native.Mathlib.Decide.{ℕ-discrete, decLt}
 use native.Mathlib.Omega.{arith}
-use Rattle.game.specs.Find.{First, Found}
+use Rattle.game.specs.Find.{Decides, First, Found}
+
+-- what a question was answered, where the answer was tried by its contrary
+pub denied : {P : Type 0} (b : Bool) → not b ≡ true → Decides P b → ¬ P
+denied true e d = let z : _≡_ {A = ℕ} 0 1 = cc in absurd (omega arith)
+denied false e d = d
+
+pub granted : {P : Type 0} (b : Bool) → not b ≡ false → Decides P b → P
+granted true e d = d
+granted false e d = let z : _≡_ {A = ℕ} 0 1 = cc in absurd (omega arith)
 
 -- A search goes on by one, ends with none, or ends here.
 module _ (P : ℕ → Type 0) where

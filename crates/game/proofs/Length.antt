@@ -4,11 +4,11 @@ use mathlib.Core.Logic.{_⊎_, inl, inr}
 use Prim.Native.Nat.{ℕ, zero, suc, _<_}
 use native.Mathlib.Omega.{arith}
 use lib.Dec.{T}
-use Rattle.game.specs.Book.{Book, Objects}
+use Rattle.game.specs.Book.{Book, Objects, count}
 use Rattle.game.specs.Rules.{fallsWithin, standsWithin}
 use Rattle.game.proofs.Search.{clash, refute, or-left, or-right, or-cases}
 use Rattle.game.proofs.Rules.{FallsWithin, StandsWithin, unanswered, falls-zero, falls-by, falls-at, stands-at, stands-zero-by, stands-read, falls-mono, stands-mono, exclusive}
-use Rattle.game.proofs.Count.{count, count-le, count-strict}
+use Rattle.game.proofs.Count.{count-le, count-strict}
 
 module _ (B : Book) where
   -- x falls or stands within n turns

@@ -75,7 +75,7 @@ kind-by is-open (stands m) = refl
 kind-by is-open (falls m) = refl
 kind-by is-open is-open = refl
 
-label-low : (v : Verdict) → labelNumber v ≤ 2
+pub label-low : (v : Verdict) → labelNumber v ≤ 2
 label-low is-open = omega arith
 label-low (stands n) = omega arith
 label-low (falls n) = omega arith

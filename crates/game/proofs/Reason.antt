@@ -8,14 +8,14 @@ use Prim.Native.Nat.{ℕ, zero, suc, _≤_, _<_}
 use native.Mathlib.Decide.{le-ind}
 use native.Mathlib.Omega.{arith}
 use lib.Dec.{T, eqb, ltb, eqb→eq, eqb-refl, ltb→lt, lt→ltb}
-use Rattle.game.specs.Book.{Book, Listed, Objects, any}
+use Rattle.game.specs.Book.{Book, Listed, Objects, any, count}
 use Rattle.game.specs.Label.{Verdict, is-open, stands, falls, Means}
 use Rattle.game.specs.Objection.{kindOf, OfKind}
 use Rattle.game.specs.Reason.{NotIdle, Belongs, Reaches, asked, onward, InReason, OfReason, OnlyReason}
 use Rattle.game.specs.declared.Kind.{Kind}
 use Rattle.game.specs.declared.Kind.the-variants.{Idle, Felling, Delaying, Standoff}
 use Rattle.game.proofs.Search.{decide, clash, both, and-of, or-left, or-right, or-cases, any-of, any-at}
-use Rattle.game.proofs.Count.{count, count-le, count-strict}
+use Rattle.game.proofs.Count.{count-le, count-strict}
 use Rattle.game.proofs.Verdict.{verdict, verdict-means, means-verdict}
 use Rattle.game.proofs.Objection.{kind-unique}
 use Rattle.game.proofs.Transfer.{Needed, transfer}

@@ -1,6 +1,6 @@
 -- The register as a meaning, free of bytes, numbers and limits: a book. Also how a register that is handed over as lists
 -- makes one. What a book's statements are worth is left to Game and Label.
-use mathlib.Core.Bool.{Bool, true, false, not, _&&_, _||_}
+use mathlib.Core.Bool.{Bool, true, false, not, cond, _&&_, _||_}
 use mathlib.Core.List.{List}
 use mathlib.Core.Path.{_≡_}
 use Prim.Native.Nat.{ℕ, zero, suc, _≤_, _<_}
@@ -33,7 +33,7 @@ Unread B x = T (B .unread x)
 abbrev pub Read : Book → ℕ → Type 0
 Read B x = T (not (B .unread x))
 
--- some place below n passes the test; every place below n does
+-- some place below n passes the test; every place below n does; how many do
 unfoldable pub any : ℕ → (ℕ → Bool) → Bool
 any zero p = false
 any (suc n) p = p n || any n p
@@ -41,6 +41,10 @@ any (suc n) p = p n || any n p
 unfoldable pub all : ℕ → (ℕ → Bool) → Bool
 all zero p = true
 all (suc n) p = p n && all n p
+
+unfoldable pub count : ℕ → (ℕ → Bool) → ℕ
+count zero p = 0
+count (suc n) p = cond (p n) (suc (count n p)) (count n p)
 
 -- "Other callers hand over a list of marks (0 read, 1 unread) and two equally long lists of places, counted from 0 in
 -- the mark list: objectors and targets." The k-th objector objects to the k-th target.

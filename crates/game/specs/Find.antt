@@ -1,6 +1,12 @@
--- Searches through numbered entries, as contracts say them: the first entry with a property, and where a search over the
--- entries below n ends.
+-- Questions and searches, as contracts say them: whether it is so, the first entry with a property, and where a search over
+-- the entries below n ends.
+use mathlib.Core.Bool.{Bool, true, false}
 use Prim.Native.Nat.{ℕ, _≤_, _<_}
+
+-- a test answers whether it is so
+abbrev pub Decides : Type 0 → Bool → Type 0
+Decides P true = P
+Decides P false = ¬ P
 
 -- k is the first entry that has the property
 abbrev pub First : (ℕ → Type 0) → ℕ → Type 0

@@ -9,7 +9,6 @@ use Rattle.game.specs.Label.{Verdict, Means}
 use Rattle.game.proofs.Verdict.{number-unique}
 use Rattle.text.specs.Register.{Register, book}
 use Rattle.text.proofs.Unique as text
-use Rattle.listing.specs.Listing.{IsListing}
 use Rattle.listing.proofs.Listing.{listing-once}
 use Rattle.refusal.specs.declared.Refusal.{Refusal}
 use Rattle.answer.specs.Answer.{Begins, Short}
@@ -17,9 +16,8 @@ use Rattle.answer.specs.declared.Answer.{Answer}
 use Rattle.answer.proofs.Rooms.{begins-unique, written-unique}
 use Rattle.answer.proofs.Promises.{promised-unique, short-once}
 use Rattle.solved.specs.Solved.{TextRefuses}
-use Rattle.solved.proofs.Laws.{text-once, text-apart}
+use Rattle.solved.proofs.Laws.{text-once, text-apart, text-unique}
 use Rattle.on_text.specs.Texts.{StatementsGiven, TextStatements, TextLabels, TextLengths, ListingIn, ListingShort, TextListing}
-use Rattle.text.specs.Reads.{Accepts}
 
 -- A text is the written form of one register at most, so its answers are one too.
 module _ (s : List ℕ) where
@@ -57,19 +55,13 @@ module _ (s : List ℕ) where
   pub unique-text-listing : (room : List ℕ) (a a′ : Answer) (after after′ : List ℕ) → TextListing s room a after
       → TextListing s room a′ after′ → (a ≡ a′) × (after ≡ after′)
   unique-text-listing room =
-      promised-unique (TextRefuses s later) Gives (text-once s later (λ R. short-once (ListingShort room R)))
-      (λ r n after p g. text-apart s later r (g .0) p (g .1) (λ h. fits n after g (h .0))) same room
+      text-unique s (λ R. Short (ListingShort room R)) (λ R. ListingIn R room) (λ R. short-once (ListingShort room R))
+      (λ R t r n after p g. fits R n after g (p .0)) (λ R t. same R) room
     where
-      later : Register → Refusal → Type 0
-      later R = Short (ListingShort room R)
+      fits : (R : Register) (n : ℕ) (after : List ℕ) → ListingIn R room n after → ¬ ListingShort room R
+      fits R n after (l, is, (c, h, e)) (k, isn, t) = omega (arith, h, t, ap length (listing-once R k l isn is))
 
-      Gives : ℕ → List ℕ → Type 0
-      Gives n after = (R : Register) × Accepts s R × ListingIn R room n after
-
-      fits : (n : ℕ) (after : List ℕ) (g : Gives n after) → ¬ ListingShort room (g .0)
-      fits n after (R, a, (l, is, (c, h, e))) (k, isn, t) = omega (arith, h, t, ap length (listing-once R k l isn is))
-
-      same : (n n′ : ℕ) (after after′ : List ℕ) → Gives n after → Gives n′ after′ → (n ≡ n′) × (after ≡ after′)
-      same n n′ after after′ (R, a, (l, is, w)) (R′, a′, (l′, is′, w′)) =
-          written-unique l l′ room n n′ after after′ (listing-once R l l′ is
-          (subst (λ T. IsListing T l′) (text.accepts-once s R′ R a′ a) is′)) w w′
+      same : (R : Register) (n n′ : ℕ) (after after′ : List ℕ) → ListingIn R room n after → ListingIn R room n′ after′ → (n ≡ n′)
+          × (after ≡ after′)
+      same R n n′ after after′ (l, is, w) (l′, is′, w′) =
+          written-unique l l′ room n n′ after after′ (listing-once R l l′ is is′) w w′

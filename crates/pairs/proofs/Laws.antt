@@ -11,7 +11,7 @@ use Rattle.game.specs.Book.{InOrder}
 use Rattle.game.specs.Find.{First}
 use Rattle.game.proofs.Find.{first-below, first-once}
 use Rattle.refusal.specs.declared.Refusal.{Refusal}
-use Rattle.refusal.specs.declared.Refusal.the-variants.{TooLong, Unended, Spoiled, Late, Issued, Statements, Unknown, Repeated, Objections, Room, Unequal, Mark, Place, Asked, Turns}
+use Rattle.refusal.specs.declared.Refusal.the-variants.{TooLong, Unended, Spoiled, Late, Issued, Statements, Unknown, Repeated, Objections, Room, Unequal, Mark, Place, Asked, Turns, Sheet}
 use Rattle.pairs.specs.Refuses.{BadMark, BadPlace, Same, Repeat, Lists, Refuses}
 
 module _ (marks objectors targets : List ℕ) where
@@ -66,6 +66,7 @@ module _ (marks objectors targets : List ℕ) where
   not-both a Room p = p
   not-both a Asked p = p
   not-both a Turns p = p
+  not-both a Sheet p = p
 
 -- Decisions, so that the refusal can be looked for.
 not? : {A : Type 0} → Dec A → Dec (¬ A)
@@ -222,6 +223,7 @@ module _ (marks objectors targets : List ℕ) where
   refuses-is Room p = absurd p
   refuses-is Asked p = absurd p
   refuses-is Turns p = absurd p
+  refuses-is Sheet p = absurd p
 
   pub refuses-once : (r r′ : Refusal) → Refuses marks objectors targets r → Refuses marks objectors targets r′ → r ≡ r′
   refuses-once r r′ p q = cc (refuses-is r p, refuses-is r′ q)

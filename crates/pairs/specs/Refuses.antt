@@ -8,7 +8,7 @@ use lib.ListN.{length, getD}
 use Rattle.game.specs.Book.{InOrder}
 use Rattle.game.specs.Find.{First}
 use Rattle.refusal.specs.declared.Refusal.{Refusal}
-use Rattle.refusal.specs.declared.Refusal.the-variants.{TooLong, Unended, Spoiled, Late, Issued, Statements, Unknown, Repeated, Objections, Room, Unequal, Mark, Place, Asked, Turns}
+use Rattle.refusal.specs.declared.Refusal.the-variants.{TooLong, Unended, Spoiled, Late, Issued, Statements, Unknown, Repeated, Objections, Room, Unequal, Mark, Place, Asked, Turns, Sheet}
 use Rattle.pairs.specs.declared.Checked.{Checked}
 use Rattle.pairs.specs.declared.Checked.the-variants.{Accepted, Refused}
 
@@ -60,6 +60,7 @@ module _ (marks objectors targets : List ℕ) where
   Refuses Room = ⊥
   Refuses Asked = ⊥
   Refuses Turns = ⊥
+  Refuses Sheet = ⊥
 
   -- what the check answers
   abbrev pub Checks : Checked → Type 0

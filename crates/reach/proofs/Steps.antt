@@ -7,13 +7,14 @@ use Prim.Native.Nat.{ℕ, _+_, _-_, _≤_, _<_}
 use native.Mathlib.Omega.{arith}
 use lib.ListN.{length, getD, set}
 use Rattle.game.specs.Book.{Book, Listed, bookOf, InOrder}
+use Rattle.game.specs.Find.{Decides}
 use Rattle.game.specs.Reason.{Belongs, Reaches, asked, onward, InReason}
 use Rattle.game.proofs.Lists.{objects-entry}
 use Rattle.game.proofs.Reason.{reaches-listed}
 use Rattle.chain.specs.Chained.{Walk, Chains}
 use Rattle.chain.proofs.Links.{stored, split}
 use Rattle.chain.proofs.Walks.{walk-begins, walk-entry, walk-more, walk-ends, walk-map}
-use Rattle.reach.specs.Reach.{Decides, Ticked, Reached, Queued, Grown}
+use Rattle.reach.specs.Reach.{Ticked, Reached, Queued, Grown}
 use Rattle.reach.proofs.Ticks.{grown-none, grown-more}
 
 -- an objection that was looked at: if it belongs to the reasons that come to x, its objector has a tick

@@ -1,5 +1,4 @@
 -- What a walk through a reason leaves in a lent room, and the states on the way to it. The reason itself is `game`'s.
-use mathlib.Core.Bool.{Bool, true, false}
 use mathlib.Core.List.{List}
 use mathlib.Core.Logic.{_⊎_, _↔_}
 use mathlib.Core.Path.{_≡_}
@@ -8,11 +7,6 @@ use lib.ListN.{length, getD}
 use Rattle.game.specs.Book.{Book, Listed, bookOf}
 use Rattle.game.specs.Reason.{Reaches, InReason}
 use Rattle.label.specs.State.{zeros}
-
--- a test answers whether P holds
-abbrev pub Decides : Type 0 → Bool → Type 0
-Decides P true = P
-Decides P false = ¬ P
 
 -- the place x has a tick in the room
 abbrev pub Ticked : List ℕ → ℕ → Type 0

@@ -9,10 +9,11 @@ ghost use mathlib.Core.Path.{_≡_};
 ghost use Prim.Native.Nat.{ℕ, _≤_, _<_};
 ghost use lib.ListN.{length, getD};
 ghost use Rattle.game.specs.Book.{bookOf};
+ghost use Rattle.game.specs.Find.{Decides};
 ghost use Rattle.game.specs.Reason.{Belongs, InReason};
 ghost use Rattle.chain.specs.Chained.{Chains};
 ghost use Rattle.label.specs.Labelled.{Settled};
-ghost use Rattle.reach.specs.Reach.{Decides, Ticked, Chosen, Reached, Queued, Grown};
+ghost use Rattle.reach.specs.Reach.{Ticked, Chosen, Reached, Queued, Grown};
 
 // Whether the objection k belongs to the reasons that come to its target.
 fn belongs(

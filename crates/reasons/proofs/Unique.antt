@@ -20,5 +20,5 @@ module _ (s : List ℕ) (number : ℕ) (room : List ℕ) where
       ((R : Register) × Accepts s R × (Issued R number × (0 ≤ 6) × ReasonShort R number room)) a
   exactly-text-reason =
       asked-exactly s number 0 (λ R. ReasonShort R number room)
-      (λ n after. (R : Register) × Accepts s R × ReasonIn R number room n after)
+      (λ R. ReasonIn R number room)
       (list-apart s number IsReason reason-once (λ R l. l) (λ R l. refl) room) room

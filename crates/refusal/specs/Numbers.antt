@@ -2,7 +2,7 @@
 -- the entry, from 0."
 use Prim.Native.Nat.{ℕ}
 use Rattle.refusal.specs.declared.Refusal.{Refusal}
-use Rattle.refusal.specs.declared.Refusal.the-variants.{TooLong, Unended, Spoiled, Late, Issued, Statements, Unknown, Repeated, Objections, Room, Unequal, Mark, Place, Asked, Turns}
+use Rattle.refusal.specs.declared.Refusal.the-variants.{TooLong, Unended, Spoiled, Late, Issued, Statements, Unknown, Repeated, Objections, Room, Unequal, Mark, Place, Asked, Turns, Sheet}
 
 abbrev pub numberOf : Refusal → ℕ
 -- text over 65,535 bytes
@@ -35,6 +35,8 @@ numberOf (Place k) = 13
 numberOf Asked = 14
 -- more than 6 turns asked
 numberOf Turns = 15
+-- an old sheet with a 3, a size that isn't the register's, a set spare bit or wrong totals (E2)
+numberOf Sheet = 16
 
 abbrev pub placeOf : Refusal → ℕ
 placeOf TooLong = 0
@@ -52,3 +54,4 @@ placeOf (Mark k) = k
 placeOf (Place k) = k
 placeOf Asked = 0
 placeOf Turns = 0
+placeOf Sheet = 0

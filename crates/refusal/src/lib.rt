@@ -1,5 +1,5 @@
-// The refusals of the product, with the number and the place that 01's table gives each. When one is given is said where
-// it is given; here is only what it is called.
+// The refusals of the product, with the number and the place that 01's table and later requests give each. When one is given
+// is said where it is given; here is only what it is called.
 ghost use mathlib.Core.Path.{_≡_};
 ghost use Rattle.refusal.specs.Numbers.{numberOf, placeOf};
 
@@ -20,6 +20,7 @@ pub enum Refusal {
     Place(u32),
     Asked,
     Turns,
+    Sheet,
 }
 
 pub fn number(refusal: Refusal) -> u32
@@ -41,6 +42,7 @@ pub fn number(refusal: Refusal) -> u32
         Refusal::Place(_) => 13,
         Refusal::Asked => 14,
         Refusal::Turns => 15,
+        Refusal::Sheet => 16,
     }
 }
 
@@ -63,5 +65,6 @@ pub fn place(refusal: Refusal) -> u32
         Refusal::Place(entry) => entry,
         Refusal::Asked => 0,
         Refusal::Turns => 0,
+        Refusal::Sheet => 0,
     }
 }

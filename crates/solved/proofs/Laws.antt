@@ -1,18 +1,19 @@
--- Laws of promises on a text: it is the written form of one register at most, so what is refused is one; and what is promised
--- of its register is promised of the text.
+-- Laws of promises on a text: it is the written form of one register at most, so what is refused or given is one; and what is
+-- promised of its register is promised of the text.
 use mathlib.Core.List.{List}
-use mathlib.Core.Logic.{inl, inr}
+use mathlib.Core.Logic.{inl, inr, ⊎-elim, _↔_}
 use mathlib.Core.Path.{_≡_, sym, _∙_, subst}
 use Prim.Native.Nat.{ℕ, _<_}
 use native.Mathlib.Decide.{decLt}
 use native.Mathlib.Omega.{arith}
 use Rattle.text.specs.Register.{Register, Valid}
-use Rattle.text.specs.Reads.{Accepts}
+use Rattle.text.specs.Reads.{Accepts, Refuses}
 use Rattle.text.proofs.Unique as text
 use Rattle.refusal.specs.declared.Refusal.{Refusal}
 use Rattle.answer.specs.Answer.{Promised}
 use Rattle.answer.specs.declared.Answer.{Answer}
 use Rattle.answer.specs.declared.Answer.the-variants.{Refused, Given}
+use Rattle.answer.proofs.Promises.{through, promised-unique, refused-exactly}
 use Rattle.solved.specs.Solved.{TextRefuses, Places}
 
 -- a number stands at one place
@@ -36,6 +37,33 @@ module _ (s : List ℕ) (later : Register → Refusal → Type 0) where
   pub text-apart : (r : Refusal) (R : Register) → TextRefuses s later r → Accepts s R → ¬ later R r → ⊥
   text-apart r R (inl p) a n = text.not-both s R r a p
   text-apart r R (inr p) a n = n (subst (λ R. later R r) (text.accepts-once s (p .0) R (p .1) a) (p .2))
+
+-- Answers are unique where those to what is asked of the register are; `gives` says what is given of it.
+module _ {Rooms : Type 0} (s : List ℕ) (later : Register → Refusal → Type 0) (gives : Register → ℕ → Rooms → Type 0)
+    (one : (R : Register) (r r′ : Refusal) → later R r → later R r′ → r ≡ r′)
+    (apart : (R : Register) → Accepts s R → (r : Refusal) (n : ℕ) (after : Rooms) → later R r → gives R n after → ⊥) where
+  abbrev Gives : ℕ → Rooms → Type 0
+  Gives n after = (R : Register) × Accepts s R × gives R n after
+
+  gives-apart : (r : Refusal) (n : ℕ) (after : Rooms) → TextRefuses s later r → Gives n after → ⊥
+  gives-apart r n after p (R, a, g) = text-apart s later r R p a (λ q. apart R a r n after q g)
+
+  pub text-unique : ((R : Register) → Accepts s R → (n n′ : ℕ) (after after′ : Rooms) → gives R n after → gives R n′ after′
+      → (n ≡ n′) × (after ≡ after′)) → (rooms : Rooms) (a a′ : Answer) (after after′ : Rooms)
+      → Promised (TextRefuses s later) Gives rooms a after → Promised (TextRefuses s later) Gives rooms a′ after′
+      → (a ≡ a′) × (after ≡ after′)
+  text-unique same =
+      promised-unique (TextRefuses s later) Gives (text-once s later one) gives-apart
+      (λ n n′ after after′ (R, a, g) (R′, a′, g′). same R a n n′ after after′ g
+      (subst (λ T. gives T n′ after′) (text.accepts-once s R′ R a′ a) g′))
+
+  -- and a refusal that is none of the text's is given exactly when it is due
+  pub text-exactly : (rooms : Rooms) (a : Answer) (after : Rooms) → Promised (TextRefuses s later) Gives rooms a after
+      → (r : Refusal) → ¬ Refuses s r → (due : Register → Type 0) → ((R : Register) → later R r ↔ due R)
+      → (a ≡ Refused r) ↔ ((R : Register) × Accepts s R × due R)
+  text-exactly rooms a after p r n due e =
+      through (refused-exactly (TextRefuses s later) Gives (text-once s later one) gives-apart rooms a after p r)
+      (⊎-elim (λ q. absurd (n q)) (λ (R, t, q). (R, t, e R .0 q)), λ (R, t, d). inr (R, t, e R .1 d))
 
 -- what is promised of its register is promised of the text
 pub text-promised : {Rooms : Type 0} (s : List ℕ) (later : Register → Refusal → Type 0) (gives : Register → ℕ → Rooms → Type 0)

@@ -2,21 +2,23 @@
 -- test holds the guess's written form against the text, its numbers against the rules, and its listing against the row's.
 use mathlib.Core.Bool.{Bool, true, false, not, cond, _&&_, _||_}
 use mathlib.Core.List.{List, [], _∷_, _++_}
+use mathlib.Core.Logic.{⊎-elim}
 use mathlib.Core.Option.{Option, some, none}
 use mathlib.Core.Path.{_≡_, refl, ap₂, subst}
-use Prim.Native.Nat.{ℕ, _+_, _-_, _*_, _<_}
+use Prim.Native.Nat.{ℕ, _+_, _-_, _*_, _≤_, _<_}
 use Prim.Native.String.{String}
+use native.Mathlib.Decide.{decLt}
 use native.Mathlib.Omega.{arith}
 use lib.Dec.{T, T-not, eqb, leb, ltb, eqb→eq, eqb-refl, leb→le, ltb→lt}
-use lib.ListN.{length, getD}
-use Rattle.game.specs.Book.{Book, Listed, Objects, bookOf, any, all}
-use Rattle.game.specs.Label.{Verdict, is-open, Means}
+use lib.ListN.{length, getD, List·getD-eq-default}
+use Rattle.game.specs.Book.{Book, Listed, Objects, bookOf, any, all, count}
+use Rattle.game.specs.Label.{Verdict, is-open, Means, labelNumber}
 use Rattle.game.specs.Rules.{fallsWithin, standsWithin}
 use Rattle.game.specs.Objection.{kindOf, OfKind}
 use Rattle.game.specs.Finish.{Finish}
 use Rattle.game.specs.declared.Kind.{Kind}
 use Rattle.game.specs.declared.Kind.the-variants.{Idle}
-use Rattle.game.proofs.Search.{both, and-of, only-if, any-at, all-at}
+use Rattle.game.proofs.Search.{both, and-of, only-if, or-cases, any-at, all-at}
 use Rattle.game.proofs.Lists.{objects-entry}
 use Rattle.game.proofs.Verdict.{verdict, verdictBy, verdict-means}
 use Rattle.game.proofs.Objection.{never-occurs}
@@ -30,8 +32,10 @@ use Rattle.listing.specs.Listing.{statementRows, objectionRows, listing, IsList
 use Rattle.listing.specs.Parts.{orIdle}
 use Rattle.listing.proofs.Parts.{upTo, length-upTo, getD-upTo}
 use Rattle.alone.specs.Alone.{keep}
+use Rattle.sheet.specs.Sheet.{codeAt, bytesFor, total, IsSheet}
+use Rattle.sheet.proofs.Bytes.{code-beyond}
 use Rattle.reasons.specs.Reasons.{IsReason}
-use Rattle.table.specs.Table.{Row, lists, finishes, explains, Says, Every, ascii, table, reasons}
+use Rattle.table.specs.Table.{Row, lists, finishes, explains, packs, totalsOf, Says, Every, ascii, table, reasons, sheets}
 use Rattle.text.specs.Reads.{Accepts}
 
 -- The guess: fields end at bytes up to 10, and a line has three.
@@ -251,6 +255,48 @@ module _ (R : Register) where
       is = same-is l (reasonOf x) t;
     }
 
+-- A sheet has the codes of the computed verdicts, and nothing else is on it.
+module _ (R : Register) (sheet : List ℕ) where
+  coded : ℕ → Bool
+  coded x = eqb (codeAt sheet x) (labelNumber (verdictAt R x))
+
+  packed : Bool
+  packed =
+      (eqb (length sheet) (bytesFor (book R .size)) && all (length sheet) (λ k. ltb (getD sheet k 0) 256))
+      && (all (book R .size) coded && all (4 * length sheet) (λ x. ltb x (book R .size) || eqb (codeAt sheet x) 0))
+
+  packed-is : T packed → Valid R → IsSheet (book R) sheet
+  unfolding packed coded
+  packed-is t valid =
+      let (p, q) = both (eqb (length sheet) (bytesFor (book R .size)) && all (length sheet) (λ k. ltb (getD sheet k 0) 256))
+      (all (book R .size) coded && all (4 * length sheet) (λ x. ltb x (book R .size) || eqb (codeAt sheet x) 0)) t in
+      let (size, bytes) = both (eqb (length sheet) (bytesFor (book R .size)))
+      (all (length sheet) (λ k. ltb (getD sheet k 0) 256)) p in
+      let (each, spare) = both (all (book R .size) coded)
+      (all (4 * length sheet) (λ x. ltb x (book R .size) || eqb (codeAt sheet x) 0)) q in
+      record {
+        bytes = λ k. byte bytes k (decLt k (length sheet));
+        size = eqb→eq (length sheet) (bytesFor (book R .size)) size;
+        each = λ x h. (
+          verdictAt R x,
+          verdict-is R valid x h,
+          eqb→eq (codeAt sheet x) (labelNumber (verdictAt R x)) (all-at (book R .size) coded each x h),
+        );
+        spare = λ x h. beyond spare x h (decLt x (4 * length sheet));
+      }
+    where
+      byte : T (all (length sheet) (λ k. ltb (getD sheet k 0) 256)) → (k : ℕ) → Dec (k < length sheet) → getD sheet k 0 < 256
+      byte t k (yes h) = ltb→lt (getD sheet k 0) 256 (all-at (length sheet) (λ k. ltb (getD sheet k 0) 256) t k h)
+      byte t k (no h) = omega (arith, List·getD-eq-default sheet 0 {n = k} (omega arith))
+
+      beyond : T (all (4 * length sheet) (λ x. ltb x (book R .size) || eqb (codeAt sheet x) 0)) → (x : ℕ) → book R .size ≤ x
+          → Dec (x < 4 * length sheet) → codeAt sheet x ≡ 0
+      beyond t x h (yes l) =
+          ⊎-elim (λ u. absurd (omega (arith, ltb→lt x (book R .size) u))) (λ u. eqb→eq (codeAt sheet x) 0 u)
+          (or-cases (ltb x (book R .size)) (eqb (codeAt sheet x) 0)
+          (all-at (4 * length sheet) (λ x. ltb x (book R .size) || eqb (codeAt sheet x) 0) t x l))
+      beyond t x h (no l) = code-beyond sheet x (omega arith)
+
 -- The book F is a finish of the book B.
 module _ (B F : Book) where
   kept : ℕ → ℕ → Bool
@@ -298,6 +344,9 @@ passes (finishes text finish listing) =
 passes (explains text number reason) =
     accepted (ascii text) (registerOf text) && (named (registerOf text) number (placeOf (numbers (registerOf text)) number)
     && same (ascii reason) (reasonOf (registerOf text) (placeOf (numbers (registerOf text)) number)))
+passes (packs text sheet totals) =
+    accepted (ascii text) (registerOf text)
+    && (packed (registerOf text) sheet && same totals (totalsOf sheet (book (registerOf text) .size)))
 
 passes-is : (r : Row) → T (passes r) → Says r
 unfolding passes named
@@ -335,6 +384,12 @@ passes-is (explains text number reason) t =
         reason-is R (accepts .valid) x (ltb→lt x (length (R .statements)) h) (ascii reason) l,
       ),
     )
+passes-is (packs text sheet totals) t =
+    let R : Register = registerOf text in
+    let (a, p) = both (accepted (ascii text) R) (packed R sheet && same totals (totalsOf sheet (book R .size))) t in
+    let (s, e) = both (packed R sheet) (same totals (totalsOf sheet (book R .size))) p in
+    let accepts : Accepts (ascii text) R = accepted-is (ascii text) R a in
+    (R, accepts, packed-is R sheet s (accepts .valid), same-is totals (totalsOf sheet (book R .size)) e)
 
 pass : List Row → Bool
 pass [] = true
@@ -357,6 +412,12 @@ unfolding reasons ascii extend fields value add guess registerOf same issued num
     verdictAt kindAt inside reasonOf named passes pass any all bookOf standsWithin fallsWithin verdict verdictBy decimal decimalIn
     bytes placeOf statementRow objectionRow objectionRows keep counts belonging reaching
 reasons-hold = pass-is reasons tt
+
+pub sheets-hold : Every Says sheets
+unfolding sheets ascii extend fields value add guess registerOf same issued numbered differ known distinct ordered accepted
+    verdictAt coded packed codeAt total count passes pass any all bookOf standsWithin fallsWithin verdict verdictBy decimal
+    decimalIn bytes placeOf
+sheets-hold = pass-is sheets tt
 
 -- Two of the table's registers by name, for those who need the register itself: the lone read statement, and the chain of four.
 unfoldable pub lone : Register

@@ -1,13 +1,15 @@
--- The examples that 01 marks P, in one table, and examples of reasons in another. A row is a register text with its listing, a
--- register text with the text of a finish and the finish's listing, or a register text with a number and the reason of its
--- statement. What a row says is said by the meanings: texts by their written form, labels and lengths by forced win, the finish
--- by the finish relation, the reason by what it reaches.
+-- The examples that 01 marks P, in one table, examples of reasons in another, and of label sheets in a third. A row is a register
+-- text with its listing, a register text with the text of a finish and the finish's listing, a register text with a number and
+-- the reason of its statement, or a register text with its sheet and totals. What a row says is said by the meanings: texts by
+-- their written form, labels and lengths by forced win, the finish by the finish relation, the reason by what it reaches.
 use mathlib.Core.List.{List, [], _∷_}
+use mathlib.Core.Path.{_≡_}
 use Prim.Native.Nat.{ℕ}
 use Prim.Native.Char.{code}
 use Prim.Native.String.{String, [] as ended, _∷_ as _then_}
 use Rattle.game.specs.Finish.{Finish}
 use Rattle.text.specs.Register.{Register, book}
+use Rattle.sheet.specs.Sheet.{total, IsSheet}
 use Rattle.solved.specs.Solved.{Places}
 use Rattle.listing.specs.Listing.{IsListing}
 use Rattle.reasons.specs.Reasons.{IsReason}
@@ -22,6 +24,11 @@ pub data Row : Type 0 where
   lists : (text listing : String) → Row
   finishes : (text finish listing : String) → Row
   explains : (text : String) (number : ℕ) (reason : String) → Row
+  packs : (text : String) (sheet totals : List ℕ) → Row
+
+-- the totals of a sheet of n statements: open, stands, falls
+abbrev pub totalsOf : List ℕ → ℕ → List ℕ
+totalsOf sheet n = total sheet n 0 ∷ (total sheet n 1 ∷ (total sheet n 2 ∷ []))
 
 abbrev pub Says : Row → Type 0
 Says (lists text listing) = (R : Register) × Accepts (ascii text) R × IsListing R (ascii listing)
@@ -29,6 +36,8 @@ Says (finishes text finish listing) =
     (R F : Register) × Accepts (ascii text) R × Accepts (ascii finish) F × Finish (book R) (book F) × IsListing F (ascii listing)
 Says (explains text number reason) =
     (R : Register) × Accepts (ascii text) R × ((x : ℕ) × Places R number x × IsReason R x (ascii reason))
+Says (packs text sheet totals) =
+    (R : Register) × Accepts (ascii text) R × IsSheet (book R) sheet × (totals ≡ totalsOf sheet (book R .size))
 
 abbrev pub Every : (Row → Type 0) → List Row → Type 0
 Every P [] = Unit {0}
@@ -70,4 +79,13 @@ reasons =
     ∷ explains "S\t101\tR\nS\t102\tR\nS\t103\tR\nS\t104\tR\nO\t102\t101\nO\t101\t102\nO\t103\t102\nO\t104\t103\n" 101 "101\topen\t-\n102\t101\tstandoff\t-\n101\t102\tstandoff\t-\n"
     ∷ explains "S\t101\tR\nS\t102\tR\nS\t103\tR\nS\t104\tR\nO\t102\t101\nO\t101\t102\nO\t103\t102\nO\t104\t103\n" 103 "103\tfalls\t1\n104\t103\tfelling\t1\n"
     ∷ explains "S\t101\tR\nS\t102\tR\nS\t103\tR\nS\t104\tR\nO\t102\t101\nO\t101\t102\nO\t103\t102\nO\t104\t103\n" 104 "104\tstands\t0\n"
+    ∷ []
+
+-- Two bits each, the first lowest: 96 is 0 + 4 · 0 + 16 · 2 + 64 · 1, the codes of open, open, falls, stands in the listing of 01.
+-- No statement, no byte. A fifth statement begins a second byte, and its spare bits are 0.
+unfoldable pub sheets : List Row
+sheets =
+    packs "" [] (0 ∷ (0 ∷ (0 ∷ [])))
+    ∷ packs "S\t101\tR\nS\t102\tR\nS\t103\tR\nS\t104\tR\nO\t102\t101\nO\t101\t102\nO\t103\t102\nO\t104\t103\n" (96 ∷ []) (2 ∷ (1 ∷ (1 ∷ [])))
+    ∷ packs "S\t1\tR\nS\t2\tR\nS\t3\tU\nS\t4\tR\nS\t5\tR\nO\t1\t5\n" (69 ∷ (2 ∷ [])) (1 ∷ (3 ∷ (1 ∷ [])))
     ∷ []

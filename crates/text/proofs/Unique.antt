@@ -16,7 +16,7 @@ use Rattle.line.specs.declared.Line.{Line}
 use Rattle.line.specs.declared.Line.the-variants.{Statement, Objection}
 use Rattle.line.proofs.Lines.{line-once, line-not-empty, line-ended}
 use Rattle.refusal.specs.declared.Refusal.{Refusal}
-use Rattle.refusal.specs.declared.Refusal.the-variants.{TooLong, Unended, Spoiled, Late, Issued, Statements, Unknown, Repeated, Objections, Room, Unequal, Mark, Place, Asked, Turns}
+use Rattle.refusal.specs.declared.Refusal.the-variants.{TooLong, Unended, Spoiled, Late, Issued, Statements, Unknown, Repeated, Objections, Room, Unequal, Mark, Place, Asked, Turns, Sheet}
 use Rattle.text.specs.Register.{Register, Valid, numbers, objectorNumbers, targetNumbers, Issued as OnRegister, Has, lines, bytes, written}
 use Rattle.text.specs.Reads.{Accepts, NotEnded, Reached, Refuses}
 
@@ -356,6 +356,7 @@ cause s (Mark k) p = absurd p
 cause s (Place k) p = absurd p
 cause s Asked p = absurd p
 cause s Turns p = absurd p
+cause s Sheet p = absurd p
 
 -- the reading stops at one line, for one reason
 stopped-once : (s : List ℕ) (k k′ : ℕ) (r r′ : Refusal) → Reached s k (λ R rest. Stop R rest k r)

@@ -1,11 +1,12 @@
 //! What is handed to the library: small registers in full, random ones of many shapes, the examples
 //! of document 01 and of the folder examples, as lists and as texts; damaged texts; what fuzzing
-//! has kept; and rooms of many lengths.
+//! has kept; registers that are edited, and sheets to be updated; and rooms of many lengths.
 
 pub mod corpus;
 pub mod crafted;
 pub mod damage;
 pub mod draft;
+pub mod edits;
 pub mod examples;
 pub mod files;
 pub mod handed;
@@ -15,6 +16,8 @@ pub mod page;
 pub mod reasons;
 pub mod rooms;
 pub mod shapes;
+pub mod sheet;
+pub mod sheets;
 pub mod small;
 pub mod spoiled;
 pub mod text;

@@ -53,6 +53,14 @@ impl Array {
         }
     }
 
+    /// A room that holds something before the call. An empty one is handed over as NULL.
+    pub fn holding(width: usize, entries: Vec<u32>) -> Self {
+        Array {
+            guard: GUARD,
+            ..Array::input(width, entries)
+        }
+    }
+
     /// The same array with these entries at its start.
     pub fn starting_with(&self, start: &[u32]) -> Self {
         let mut array = self.clone();

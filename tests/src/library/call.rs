@@ -4,6 +4,8 @@
 use super::array::{Array, Room};
 use crate::inputs::lists::Lists;
 use crate::inputs::rooms;
+use crate::inputs::sheet::Sheet;
+use crate::inputs::sheets;
 use crate::inputs::text::Text;
 use crate::second::exercise::MOST_TURNS;
 use crate::second::expected::{Asked, Expected, Question};
@@ -40,13 +42,19 @@ pub const LIST_CALLS: [ListCall; 5] = [
     list_call("moves_lengths", 4, Form::Moves, Question::Lengths),
 ];
 
-pub const TEXT_CALLS: [TextCall; 3] = [
+pub const TEXT_CALLS: [TextCall; 4] = [
     text_call("text_labels", 20, Question::Labels),
     text_call("text_lengths", 21, Question::Lengths),
     LISTING,
+    SHEET,
 ];
 
 pub const LISTING: TextCall = text_call("listing", 22, Question::Listing);
+pub const SHEET: TextCall = text_call("sheet", 26, Question::Sheet);
+
+/// The number by which caller.c knows the update of a sheet. It is no question: its rooms hold the
+/// old sheet before the call.
+pub const SHEET_UPDATE: u32 = 27;
 
 const fn list_call(name: &'static str, number: u32, form: Form, question: Question) -> ListCall {
     ListCall {
@@ -72,9 +80,25 @@ pub fn room_widths(question: Question) -> &'static [usize] {
         Question::Lengths => &[2],
         Question::Kinds => &[1, 2],
         Question::Listing | Question::Reason { .. } => &[1],
+        Question::Sheet => &[1, 4],
         Question::Of(Asked::Line { .. }) => &[4],
         Question::Of(Asked::Exercise { .. }) => &[],
     }
+}
+
+/// The rooms of an update, which hold the old sheet and its totals.
+pub fn rooms_with(old: &Sheet) -> Vec<Array> {
+    let widths = room_widths(Question::Sheet).iter().copied();
+    let rooms = widths.zip(old.rooms());
+    rooms
+        .map(|(width, entries)| Array::holding(width, entries))
+        .collect()
+}
+
+/// The text as it is handed over.
+pub fn text_input(text: &Text) -> Vec<Array> {
+    let bytes = text.0.iter().map(|byte| u32::from(*byte)).collect();
+    vec![Array::input(1, bytes)]
 }
 
 /// What is asked of one statement where any will do: the line and the exercise of the one with the
@@ -90,6 +114,16 @@ pub fn of_longest(expected: &Expected) -> [Asked; 2] {
         Asked::Line { statement },
         Asked::Exercise { statement, turns },
     ]
+}
+
+/// A sheet to be updated where any will do: it is sound, and has every code. For a refused text it
+/// has a statement for each line and one more, so that there is something to be left as found.
+pub fn any_sheet(text: &Text, expected: &Expected) -> Sheet {
+    let statements = match expected.refusal {
+        None => expected.verdicts.len(),
+        Some(_) => text.ended_lines() + 1,
+    };
+    sheets::in_turn(statements)
 }
 
 impl ListCall {
@@ -111,15 +145,20 @@ impl ListCall {
     /// would be if they were accepted, or more, so that there is something to be left as found.
     pub fn answer_length(&self, lists: &Lists, expected: &Expected) -> usize {
         match (self.question, expected.refusal) {
-            (Question::Of(_), None) => expected.answer_length(self.question),
+            (Question::Of(_), None) => expected.answer_lengths(self.question).iter().sum(),
             (Question::Kinds, _) => lists.objectors.len(),
             _ => lists.marks.len(),
         }
     }
 
+    /// The same for every room that it takes.
+    pub fn answer_lengths(&self, lists: &Lists, expected: &Expected) -> Vec<usize> {
+        vec![self.answer_length(lists, expected); self.rooms()]
+    }
+
     /// Every room just as long as the answer.
     pub fn fitting(&self, lists: &Lists, expected: &Expected) -> Vec<Room> {
-        rooms::fitting(self.rooms(), self.answer_length(lists, expected))
+        rooms::fitting(&self.answer_lengths(lists, expected))
     }
 
     /// The lists in the order in which this call takes them.
@@ -160,27 +199,22 @@ impl TextCall {
         text_call(name, number, Question::Of(asked))
     }
 
-    /// How many entries the answer to this text has. For a refused text it is an entry for each
-    /// line and one more, so that there is something to be left as found.
-    pub fn answer_length(&self, text: &Text, expected: &Expected) -> usize {
+    /// How many rooms it takes.
+    pub fn rooms(&self) -> usize {
+        room_widths(self.question).len()
+    }
+
+    /// How many entries the answer to this text has in each room. For a refused text it is an entry
+    /// for each line and one more, so that there is something to be left as found.
+    pub fn answer_lengths(&self, text: &Text, expected: &Expected) -> Vec<usize> {
         match expected.refusal {
-            None => expected.answer_length(self.question),
-            Some(_) => text.ended_lines() + 1,
+            None => expected.answer_lengths(self.question),
+            Some(_) => vec![text.ended_lines() + 1; self.rooms()],
         }
     }
 
-    /// So many entries in the room, if it takes one.
-    pub fn lent(&self, length: usize) -> Vec<Room> {
-        rooms::fitting(room_widths(self.question).len(), length)
-    }
-
-    /// The room just as long as the answer.
+    /// Every room just as long as the answer.
     pub fn fitting(&self, text: &Text, expected: &Expected) -> Vec<Room> {
-        self.lent(self.answer_length(text, expected))
-    }
-
-    pub fn inputs(&self, text: &Text) -> Vec<Array> {
-        let bytes = text.0.iter().map(|byte| u32::from(*byte)).collect();
-        vec![Array::input(1, bytes)]
+        rooms::fitting(&self.answer_lengths(text, expected))
     }
 }

@@ -2,11 +2,15 @@
 //! numbers of the answer, every entry of every room, the guards, and that no input has changed.
 
 use super::array::{Array, Room};
-use super::call::{of_longest, room_widths, ListCall, TextCall, LIST_CALLS};
+use super::call::{any_sheet, of_longest, room_widths, rooms_with, text_input};
+use super::call::{ListCall, TextCall, LIST_CALLS, SHEET_UPDATE};
 use super::caller::{Caller, Request};
 use crate::inputs::handed::Handed;
 use crate::inputs::lists::Lists;
+use crate::inputs::rooms;
+use crate::inputs::sheet::Sheet;
 use crate::inputs::text::Text;
+use crate::second::answer::Answer;
 use crate::second::expected::{Asked, Expected, Question};
 
 pub struct Session {
@@ -50,7 +54,7 @@ impl Session {
             let rooms = call.fitting(text, &expected);
             self.hold_text_call(&call, text, &expected, &rooms)?;
         }
-        Ok(())
+        self.hold_update(text, &expected, &any_sheet(text, &expected))
     }
 
     /// Holds the line of argument of one statement with this room.
@@ -87,6 +91,22 @@ impl Session {
         self.hold_text_call(&TextCall::reason(statement), text, expected, &[room])
     }
 
+    /// Holds the update of this sheet from a text.
+    pub fn hold_update(
+        &mut self,
+        text: &Text,
+        expected: &Expected,
+        old: &Sheet,
+    ) -> Result<(), String> {
+        let request = Request {
+            call: SHEET_UPDATE,
+            asked: (0, 0),
+        };
+        let answer = expected.updated(old);
+        self.compare(request, text_input(text), rooms_with(old), &answer)
+            .map_err(|what| format!("sheet_update, {text}; {old}: {what}"))
+    }
+
     fn hold_asked(
         &mut self,
         handed: &Handed,
@@ -113,7 +133,7 @@ impl Session {
         rooms: &[Room],
     ) -> Result<(), String> {
         let ListCall { name, question, .. } = call;
-        self.compare(call.number, *question, call.inputs(lists), expected, rooms)
+        self.hold_question(call.number, *question, call.inputs(lists), expected, rooms)
             .map_err(|what| format!("{name}, {question:?}, {lists}; rooms {rooms:?}: {what}"))
     }
 
@@ -126,11 +146,11 @@ impl Session {
         rooms: &[Room],
     ) -> Result<(), String> {
         let TextCall { name, question, .. } = call;
-        self.compare(call.number, *question, call.inputs(text), expected, rooms)
+        self.hold_question(call.number, *question, text_input(text), expected, rooms)
             .map_err(|what| format!("{name}, {question:?}, {text}; rooms {rooms:?}: {what}"))
     }
 
-    fn compare(
+    fn hold_question(
         &mut self,
         call: u32,
         question: Question,
@@ -138,12 +158,23 @@ impl Session {
         expected: &Expected,
         rooms: &[Room],
     ) -> Result<(), String> {
-        self.count();
-        let answer = expected.answer(question, &lengths(rooms));
-        let lent = lent(question, rooms);
         let asked = question.numbers();
+        let answer = expected.answer(question, &rooms::lengths(rooms));
+        let lent = lent(question, rooms);
+        self.compare(Request { call, asked }, inputs, lent, &answer)
+    }
+
+    /// Makes one call; everything that comes back must be as this answer says.
+    fn compare(
+        &mut self,
+        request: Request,
+        inputs: Vec<Array>,
+        lent: Vec<Array>,
+        answer: &Answer,
+    ) -> Result<(), String> {
+        self.count();
         let given = [inputs.clone(), lent.clone()].concat();
-        let reply = self.caller.call(Request { call, asked }, &given)?;
+        let reply = self.caller.call(request, &given)?;
         if (reply.refusal, reply.value) != (answer.refusal, answer.value) {
             return Err(format!(
                 "answered {} {} instead of {} {}",
@@ -160,10 +191,6 @@ impl Session {
         }
         Ok(())
     }
-}
-
-fn lengths(rooms: &[Room]) -> Vec<usize> {
-    rooms.iter().map(|room| room.length()).collect()
 }
 
 /// The rooms as arrays, before the call.

@@ -1,13 +1,16 @@
 //! What each call ought to answer to one input: worked out once, then asked for every question and
 //! every length of the rooms.
 
+use super::answer::Answer;
 use super::exercise::MOST_TURNS;
-use super::refusals::{self, Refusal, SHORT_ROOM, TOO_MANY_TURNS, UNKNOWN_STATEMENT};
+use super::refusals::{self, Refusal};
+use super::refusals::{SHORT_ROOM, TOO_MANY_TURNS, UNKNOWN_STATEMENT, UNSOUND_SHEET};
 use super::register::{self, Register};
 use super::verdict::Verdict;
-use super::{argument, exercise, kinds, listing, reason, rounds};
+use super::{argument, exercise, kinds, listing, reason, rounds, sheet};
 use crate::inputs::handed::Handed;
 use crate::inputs::lists::Lists;
+use crate::inputs::sheet::Sheet;
 use crate::inputs::text::Text;
 
 /// What a call is asked for, which decides the rooms it takes and what they get.
@@ -17,6 +20,8 @@ pub enum Question {
     Lengths,
     Kinds,
     Listing,
+    /// the sheet, of a text only
+    Sheet,
     /// the reason for the statement with this number, of a text only
     Reason {
         statement: u32,
@@ -51,13 +56,6 @@ pub struct Expected {
     pub register: Register,
     pub verdicts: Vec<Verdict>,
     pub kinds: Vec<(u32, u32)>,
-}
-
-/// The answer to one call: its two numbers, and what stands at the start of each room.
-pub struct Answer {
-    pub refusal: u32,
-    pub value: u32,
-    pub rooms: Vec<Vec<u32>>,
 }
 
 impl Expected {
@@ -122,36 +120,38 @@ impl Expected {
             (turns > MOST_TURNS).then_some(TOO_MANY_TURNS),
             is_short.then_some(SHORT_ROOM),
         ];
-        match rows.into_iter().flatten().next() {
-            None => Answer {
-                refusal: 0,
-                value: self.value(question, &rooms),
-                rooms,
-            },
-            Some(Refusal { number, place }) => Answer {
-                refusal: number,
-                value: place,
-                rooms: vec![Vec::new(); rooms.len()],
-            },
-        }
+        Answer::first_of(&rows, self.value(question, &rooms), rooms)
     }
 
-    /// How many entries each room gets if the call is accepted; without rooms there are none.
-    pub fn answer_length(&self, question: Question) -> usize {
-        self.entries(question).first().map_or(0, Vec::len)
+    /// The answer to an update of this sheet, which lies in the two rooms.
+    pub fn updated(&self, old: &Sheet) -> Answer {
+        let is_sound = sheet::is_sound(old, self.verdicts.len());
+        let rows = [
+            self.refusal,
+            (!is_sound).then_some(UNSOUND_SHEET),
+            (old.totals.len() < sheet::TOTALS).then_some(SHORT_ROOM),
+        ];
+        let rooms = self.sheet().rooms();
+        Answer::first_of(&rows, self.value(Question::Sheet, &rooms), rooms)
+    }
+
+    /// How many entries each room gets if the call is accepted.
+    pub fn answer_lengths(&self, question: Question) -> Vec<usize> {
+        self.entries(question).iter().map(Vec::len).collect()
     }
 
     /// What each room gets if the call is accepted.
     fn entries(&self, question: Question) -> Vec<Vec<u32>> {
         let verdicts = self.verdicts.iter();
         match question {
-            Question::Labels => vec![verdicts.map(|verdict| verdict.label()).collect()],
+            Question::Labels => vec![self.labels()],
             Question::Lengths => vec![verdicts.map(|verdict| verdict.length()).collect()],
             Question::Kinds => {
                 let (kinds, lengths) = self.kinds.iter().copied().unzip();
                 vec![kinds, lengths]
             }
             Question::Listing => vec![bytes_of(&listing::listing(self))],
+            Question::Sheet => self.sheet().rooms(),
             Question::Reason { statement } => vec![bytes_of(&self.reason(statement))],
             Question::Of(Asked::Line { statement }) => vec![self.line(statement)],
             Question::Of(Asked::Exercise { .. }) => Vec::new(),
@@ -164,6 +164,18 @@ impl Expected {
             Question::Of(Asked::Exercise { statement, turns }) => self.within(statement, turns),
             _ => rooms[0].len() as u32,
         }
+    }
+
+    pub fn labels(&self) -> Vec<u32> {
+        self.verdicts
+            .iter()
+            .map(|verdict| verdict.label())
+            .collect()
+    }
+
+    /// The sheet of the register.
+    pub fn sheet(&self) -> Sheet {
+        sheet::of_codes(&self.labels())
     }
 
     /// Where this statement is listed, if it is.

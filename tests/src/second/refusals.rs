@@ -8,9 +8,11 @@ pub const MOST_STATEMENTS: usize = 1_024;
 pub const MOST_OBJECTIONS: usize = 4_096;
 
 /// The refusals of what is asked, in 01's order: a statement that is not on the register, more than
-/// 6 turns, and a room that is shorter than the answer. They have no place.
+/// 6 turns, an old sheet that is not one of so many statements, and a room that is shorter than the
+/// answer. They have no place.
 pub const UNKNOWN_STATEMENT: Refusal = placeless(14);
 pub const TOO_MANY_TURNS: Refusal = placeless(15);
+pub const UNSOUND_SHEET: Refusal = placeless(16);
 pub const SHORT_ROOM: Refusal = placeless(10);
 
 pub const fn placeless(number: u32) -> Refusal {

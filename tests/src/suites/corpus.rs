@@ -64,7 +64,7 @@ fn hold_text(session: &mut Session, bytes: Vec<u8>) -> Result<u32, String> {
     let expected = Expected::of_text(&text);
     session.hold_text(&text)?;
     for call in &TEXT_CALLS {
-        for rooms in rooms::around(1, call.answer_length(&text, &expected)) {
+        for rooms in rooms::around(&call.answer_lengths(&text, &expected)) {
             session.hold_text_call(call, &text, &expected, &rooms)?;
         }
     }

@@ -11,6 +11,7 @@ mod reasons;
 mod refusals;
 mod rooms;
 mod shapes;
+mod sheets;
 mod small;
 mod texts;
 
@@ -49,6 +50,7 @@ pub fn all() -> Vec<Test> {
         texts::tests(),
         asked::tests(),
         reasons::tests(),
+        sheets::tests(),
         corpus::tests(),
     ];
     suites.into_iter().flatten().collect()

@@ -52,10 +52,10 @@ fn hold_sets(session: &mut Session, call: &ListCall) -> Result<(), String> {
         for arrangement in (0..Arrangement::COUNT).map(Arrangement) {
             let lists = faulty(set, arrangement);
             let expected = Expected::of_lists(&lists);
-            let length = call.answer_length(&lists, &expected);
-            let rooms = rooms_for(set, arrangement, call.rooms(), length);
-            let lengths: Vec<usize> = rooms.iter().map(|room| room.length()).collect();
-            let answered = expected.answer(call.question, &lengths).refusal;
+            let fitting = call.fitting(&lists, &expected);
+            let rooms = rooms_for(set, arrangement, fitting);
+            let answer = expected.answer(call.question, &rooms::lengths(&rooms));
+            let answered = answer.refusal;
             if answered != first_in_order(set) {
                 return Err(format!(
                     "{lists}: the second solver has {answered}, the set {set:07b}"
@@ -105,12 +105,11 @@ pub fn faulty(set: usize, arrangement: Arrangement) -> Lists {
     lists
 }
 
-/// Rooms that fit, or of which one is too short.
-fn rooms_for(set: usize, arrangement: Arrangement, count: usize, length: usize) -> Vec<Room> {
-    let mut rooms = rooms::fitting(count, length);
+/// These rooms, which fit, or of which one is made too short.
+fn rooms_for(set: usize, arrangement: Arrangement, mut rooms: Vec<Room>) -> Vec<Room> {
     if has(set, 10) {
-        let at = usize::from(arrangement.says(4)) % count;
-        rooms[at] = Room::Of(length - 1);
+        let at = usize::from(arrangement.says(4)) % rooms.len();
+        rooms[at] = Room::Of(rooms[at].length() - 1);
     }
     rooms
 }

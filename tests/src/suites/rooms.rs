@@ -4,6 +4,7 @@
 use super::Test;
 use crate::inputs::draft::Draft;
 use crate::inputs::lists::Lists;
+use crate::inputs::rooms;
 use crate::library::array::Room;
 use crate::library::call::{ListCall, LIST_CALLS};
 use crate::library::session::Session;
@@ -77,14 +78,8 @@ fn hold_each(
     lengths: &[Room],
 ) -> Result<(), String> {
     let expected = Expected::of_lists(lists);
-    for first in lengths {
-        if call.rooms() == 1 {
-            session.hold_list_call(call, lists, &expected, &[*first])?;
-            continue;
-        }
-        for second in lengths {
-            session.hold_list_call(call, lists, &expected, &[*first, *second])?;
-        }
+    for rooms in rooms::combined(lengths, call.rooms()) {
+        session.hold_list_call(call, lists, &expected, &rooms)?;
     }
     Ok(())
 }

@@ -22,8 +22,7 @@ fn hold_all(session: &mut Session, call: &ListCall) -> Result<(), String> {
         for number in 0..small::count(statements) {
             let lists = small::register(statements, number);
             let expected = Expected::of_lists(&lists);
-            let length = call.answer_length(&lists, &expected);
-            for rooms in rooms::around(call.rooms(), length) {
+            for rooms in rooms::around(&call.answer_lengths(&lists, &expected)) {
                 session.hold_list_call(call, &lists, &expected, &rooms)?;
             }
             let lists = lists.reordered(&mut random);

@@ -3,6 +3,7 @@
 
 use super::Test;
 use crate::inputs::handed::Handed;
+use crate::inputs::rooms;
 use crate::inputs::text::Text;
 use crate::library::array::Room;
 use crate::library::session::Session;
@@ -106,8 +107,7 @@ fn refused_as(
     rooms: &[Room],
     refusals: [u32; 3],
 ) -> Result<(), String> {
-    let lengths: Vec<usize> = rooms.iter().map(|room| room.length()).collect();
-    let answered = expected.answer(asked, &lengths).refusal;
+    let answered = expected.answer(asked, &rooms::lengths(rooms)).refusal;
     let first = refusals.into_iter().find(|refusal| *refusal > 0);
     if answered == first.unwrap_or(0) {
         return Ok(());

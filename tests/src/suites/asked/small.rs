@@ -43,7 +43,7 @@ fn hold_each(session: &mut Session, name: &str, hold: Hold) -> Result<(), String
 fn hold_rooms(session: &mut Session, random: &mut Random, handed: &Handed) -> Result<(), String> {
     let expected = Expected::of(handed);
     for statement in &expected.register.numbers {
-        let rooms = rooms::around(1, expected.line(*statement).len());
+        let rooms = rooms::around(&[expected.line(*statement).len()]);
         for room in some(random, handed, rooms.concat()) {
             session.hold_line(handed, &expected, *statement, room)?;
         }

@@ -56,7 +56,7 @@ fn hold_rooms(
     expected: &Expected,
 ) -> Result<(), String> {
     for statement in &expected.register.numbers {
-        let mut rooms = rooms::around(1, expected.reason(*statement).len()).concat();
+        let mut rooms = rooms::around(&[expected.reason(*statement).len()]).concat();
         random.shuffle(&mut rooms);
         for room in &rooms[..ROOMS] {
             session.hold_reason(text, expected, *statement, *room)?;

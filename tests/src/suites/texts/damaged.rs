@@ -6,13 +6,15 @@ use crate::inputs::damage::damaged;
 use crate::inputs::page::Page;
 use crate::inputs::shapes::SHAPES;
 use crate::inputs::text::Text;
-use crate::library::call::TextCall;
+use crate::library::array::Room;
+use crate::library::call::{any_sheet, TextCall};
 use crate::library::session::Session;
 use crate::random::Random;
 use crate::second::expected::Expected;
 
-/// How many of the calls are made on each text.
+/// How many of the calls are made on each text, and on one in how many a sheet is updated.
 const HELD: usize = 2;
+const UPDATED: usize = 4;
 
 /// How many texts there are: damaged ones for each sound one, sound ones, and the most statements
 /// and objections of those.
@@ -79,19 +81,29 @@ fn hold(session: &mut Session, size: &Size) -> Result<(), String> {
 }
 
 /// Holds some of the calls, now and then with a room that is a little longer or shorter than the
-/// answer. Answers the refusal of the text, or 0.
+/// answer, and now and then an update. Answers the refusal of the text, or 0.
 fn hold_text(session: &mut Session, random: &mut Random, text: &Text) -> Result<u32, String> {
     let expected = Expected::of_text(text);
     let mut calls = TextCall::every(&expected);
     random.shuffle(&mut calls);
     for call in calls.into_iter().take(HELD) {
-        let fitting = call.answer_length(text, &expected);
-        let length = match random.below(8) {
-            0 => fitting + random.below(4),
-            1 => fitting.saturating_sub(1),
-            _ => fitting,
-        };
-        session.hold_text_call(&call, text, &expected, &call.lent(length))?;
+        let mut rooms = call.fitting(text, &expected);
+        for room in &mut rooms {
+            *room = nearly(random, *room);
+        }
+        session.hold_text_call(&call, text, &expected, &rooms)?;
+    }
+    if random.once_in(UPDATED) {
+        session.hold_update(text, &expected, &any_sheet(text, &expected))?;
     }
     Ok(expected.refused_as().0)
+}
+
+fn nearly(random: &mut Random, fitting: Room) -> Room {
+    let length = fitting.length();
+    match random.below(8) {
+        0 => Room::Of(length + random.below(4)),
+        1 => Room::Of(length.saturating_sub(1)),
+        _ => fitting,
+    }
 }

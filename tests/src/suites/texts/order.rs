@@ -3,6 +3,7 @@
 
 use super::{answered, Test};
 use crate::inputs::page::Page;
+use crate::inputs::rooms;
 use crate::inputs::text::Text;
 use crate::library::array::Room;
 use crate::library::call::TEXT_CALLS;
@@ -58,19 +59,19 @@ fn hold_set(
 ) -> Result<(), String> {
     let expected = Expected::of_text(text);
     for call in &TEXT_CALLS {
-        // shorter than any answer that these texts could have
-        let room = match has(set, 10) {
-            true => Room::Of(3),
-            false => Room::Of(call.answer_length(text, &expected)),
+        // shorter than what any of these texts could have in the first room
+        let rooms = match has(set, 10) {
+            true => vec![Room::Of(3); call.rooms()],
+            false => call.fitting(text, &expected),
         };
-        let answer = expected.answer(call.question, &[room.length()]);
+        let answer = expected.answer(call.question, &rooms::lengths(&rooms));
         if answer.refusal != refusal || (refusal > 0 && answer.value != line) {
             return Err(format!(
                 "{text}: the second solver has {} {}, the set {set:010b} {refusal} {line}",
                 answer.refusal, answer.value
             ));
         }
-        session.hold_text_call(call, text, &expected, &[room])?;
+        session.hold_text_call(call, text, &expected, &rooms)?;
     }
     Ok(())
 }

@@ -41,7 +41,7 @@ fn hold_small(session: &mut Session, call: &TextCall) -> Result<(), String> {
             let lists = small::register(statements, register);
             let text = written(&mut random, &lists)?;
             let expected = Expected::of_text(&text);
-            for rooms in rooms::around(1, call.answer_length(&text, &expected)) {
+            for rooms in rooms::around(&call.answer_lengths(&text, &expected)) {
                 session.hold_text_call(call, &text, &expected, &rooms)?;
             }
         }

@@ -1,9 +1,10 @@
 //! Rooms of every length around the right one, for texts small and large, sound and refused:
-//! refusal 10 exactly if the room is shorter than the answer, and no entry written that is not the
+//! refusal 10 exactly if a room is shorter than the answer, and no entry written that is not the
 //! answer's.
 
 use super::Test;
 use crate::inputs::page::Page;
+use crate::inputs::rooms;
 use crate::inputs::text::Text;
 use crate::library::array::Room;
 use crate::library::call::{TextCall, TEXT_CALLS};
@@ -30,7 +31,7 @@ fn small(session: &mut Session, call: &TextCall) -> Result<(), String> {
     for statements in 1..=8 {
         for objections in [0, 1, statements, statements * statements] {
             let text = Page::random(&mut random, statements, objections).text();
-            let right = Expected::of_text(&text).answer_length(call.question);
+            let right = longest_room(call, &text);
             hold_up_to(session, call, &text, right + 3)?;
         }
     }
@@ -41,12 +42,18 @@ fn at_limits(session: &mut Session, call: &TextCall) -> Result<(), String> {
     let mut random = Random::for_test("rooms of large texts");
     for (statements, objections) in [(1_024, 300), (100, 4_096), (1_024, 4_096)] {
         let text = Page::random(&mut random, statements, objections).text();
-        let right = Expected::of_text(&text).answer_length(call.question);
+        let right = longest_room(call, &text);
         // 65,536 would be an empty room if it were cut down to 16 bits
         let lengths = [0, 1, right - 1, right, right + 1, 65_536, 131_072];
         hold_each(session, call, &text, lengths.map(Room::Of).as_slice())?;
     }
     Ok(())
+}
+
+/// How many entries the answer to a sound text has in the room that gets most.
+fn longest_room(call: &TextCall, text: &Text) -> usize {
+    let lengths = Expected::of_text(text).answer_lengths(call.question);
+    lengths.into_iter().max().expect("a room")
 }
 
 /// Whatever the room of a refused text, it is the text that is refused.
@@ -69,7 +76,7 @@ fn refused(session: &mut Session, call: &TextCall) -> Result<(), String> {
     Ok(())
 }
 
-/// Holds the call with no room, and with rooms of every length up to the most.
+/// Holds the call with no rooms, and with rooms of every length up to the most.
 fn hold_up_to(
     session: &mut Session,
     call: &TextCall,
@@ -81,6 +88,7 @@ fn hold_up_to(
     hold_each(session, call, text, &lengths)
 }
 
+/// Every room takes every one of the lengths, whatever the other has.
 fn hold_each(
     session: &mut Session,
     call: &TextCall,
@@ -88,8 +96,8 @@ fn hold_each(
     lengths: &[Room],
 ) -> Result<(), String> {
     let expected = Expected::of_text(text);
-    for room in lengths {
-        session.hold_text_call(call, text, &expected, &[*room])?;
+    for rooms in rooms::combined(lengths, call.rooms()) {
+        session.hold_text_call(call, text, &expected, &rooms)?;
     }
     Ok(())
 }

@@ -1,0 +1,4 @@
+pub mod Bytes
+pub mod Totals
+pub mod Steps
+pub mod Sheets

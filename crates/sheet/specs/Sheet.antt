@@ -1,0 +1,46 @@
+-- A label sheet: two bits for each statement, and totals beside it. What stands on a sheet is said by how it is read; the labels
+-- are the meaning's.
+use mathlib.Core.List.{List}
+use mathlib.Core.Path.{_≡_}
+use Prim.Native.Nat.{ℕ, _+_, _/_, _%_, _^_, _≤_, _<_}
+use lib.Dec.{eqb}
+use lib.ListN.{length, getD}
+use Rattle.game.specs.Book.{Book, Listed, count}
+use Rattle.game.specs.Label.{Verdict, Means, labelNumber}
+
+-- "Two bits for each statement in listed order, four to a byte, the first in the lowest bits": the code of the statement x.
+unfoldable pub codeAt : (sheet : List ℕ) → ℕ → ℕ
+codeAt sheet x = getD sheet (x / 4) 0 / 4 ^ (x % 4) % 4
+
+-- the bytes of a sheet of n statements
+abbrev pub bytesFor : ℕ → ℕ
+bytesFor n = (n + 3) / 4
+
+-- "0 open, 1 stands, 2 falls, 3 unused": the codes below this one are in use, and each has its total
+abbrev pub codes : ℕ
+codes = 3
+
+-- how many of the n statements have this code
+unfoldable pub total : (sheet : List ℕ) → (n code : ℕ) → ℕ
+total sheet n code = count n (λ x. eqb (codeAt sheet x) code)
+
+-- The sheet of a book. "Spare bits of the last byte are 0."
+pub record IsSheet (B : Book) (sheet : List ℕ) : Type 0 where
+  pub bytes : (k : ℕ) → getD sheet k 0 < 256
+  pub size : length sheet ≡ bytesFor (B .size)
+  pub each : (x : ℕ) → Listed B x → (v : Verdict) × Means B x v × (codeAt sheet x ≡ labelNumber v)
+  pub spare : (x : ℕ) → B .size ≤ x → codeAt sheet x ≡ 0
+
+-- A sheet of n statements, of whatever register, with the totals beside it: "no 3, the register's size, no spare bit set and its
+-- own totals". Totals that are not handed over are not wrong ones.
+pub record SoundSheet (n : ℕ) (sheet totals : List ℕ) : Type 0 where
+  pub size : length sheet ≡ bytesFor n
+  pub used : (x : ℕ) → x < n → codeAt sheet x < codes
+  pub spare : (x : ℕ) → n ≤ x → codeAt sheet x ≡ 0
+  pub own : (c : ℕ) → c < codes → c < length totals → getD totals c 0 ≡ total sheet n c
+
+-- What setting the code of x does: it is read back, every other code is as it was, and so is every other byte.
+pub record CodeSet (old : List ℕ) (x code : ℕ) (new : List ℕ) : Type 0 where
+  pub has : codeAt new x ≡ code
+  pub others : (y : ℕ) → (y ≡ x → ⊥) → codeAt new y ≡ codeAt old y
+  pub bytes : (k : ℕ) → (k ≡ x / 4 → ⊥) → getD new k 0 ≡ getD old k 0

@@ -15,7 +15,7 @@ DESTDIR =
 INSTALL = install
 
 library = target/staticlib/libbatqemulo.a
-programs = list reason
+programs = list reason mend
 crates := crates.txt $(shell find crates -type f)
 
 # the calls, each of which gets a man page that leads to batqemulo.3

@@ -23,11 +23,13 @@ typedef double times[WORKS][SIDES];
 static const struct table {
     const char *about;
     const struct work *works;
+    size_t work_count;
     const struct shape *shapes;
     size_t count;
 } tables[] = {
-    {"the whole register", works_on_all, shapes_of_all, SHAPES_OF_ALL},
-    {"one statement", works_on_one, shapes_of_one, SHAPES_OF_ONE},
+    {"the whole register", works_on_all, WORKS, shapes_of_all, SHAPES_OF_ALL},
+    {"one statement", works_on_one, WORKS, shapes_of_one, SHAPES_OF_ONE},
+    {"a register to be mended", works_on_old, MENDING_WORKS, shapes_of_old, SHAPES_OF_OLD},
 };
 
 /* Stops the run unless both sides answer alike. */
@@ -77,18 +79,18 @@ static void print_head(const struct table *table) {
     printf("Calls that are asked for %s\n", table->about);
     printf("Microseconds for one call, medians of %d samples by turns; ratio: library / C\n\n",
            (int)SAMPLES);
-    printf("%-10s %6s %6s", "", "state-", "");
-    for (size_t work = 0; work < WORKS; work++)
+    printf("%-10s %6s %6s %6s", "", "state-", "", "");
+    for (size_t work = 0; work < table->work_count; work++)
         printf("  | %-28s", table->works[work].name);
-    printf("\n%-10s %6s %6s", "shape", "ments", "pairs");
-    for (size_t work = 0; work < WORKS; work++)
+    printf("\n%-10s %6s %6s %6s", "shape", "ments", "pairs", "bytes");
+    for (size_t work = 0; work < table->work_count; work++)
         printf("  | %10s %10s %6s", "library", "C", "ratio");
     printf("\n");
 }
 
-static void print_row(const struct shape *shape, times medians) {
-    printf("%-10s %6zu %6zu", shape->name, drawn.statements, drawn.pairs);
-    for (size_t work = 0; work < WORKS; work++)
+static void print_row(const struct table *table, const struct shape *shape, times medians) {
+    printf("%-10s %6zu %6zu %6zu", shape->name, drawn.statements, drawn.pairs, drawn.bytes);
+    for (size_t work = 0; work < table->work_count; work++)
         printf("  | %10.2f %10.2f %6.2f", medians[work][LIBRARY] / 1e3, medians[work][PLAIN] / 1e3,
                medians[work][LIBRARY] / medians[work][PLAIN]);
     printf("\n");
@@ -105,7 +107,7 @@ static void print_growth(times *medians, size_t work) {
 
 /* From each size to the next, which is twice as large: linear work grows by 2, quadratic by 4. */
 static void print_growths(const struct table *table, times medians[][SIZES]) {
-    for (size_t work = 0; work < WORKS; work++) {
+    for (size_t work = 0; work < table->work_count; work++) {
         printf("\nGrowth of the times from each size to the next: %s\n\n", table->works[work].name);
         printf("%-10s  | %-17s | %-17s\n", "shape", "library", "C");
         for (size_t shape = 0; shape < table->count; shape++) {
@@ -123,11 +125,11 @@ static void time_table(const struct table *table) {
         for (size_t size = 0; size < SIZES; size++) {
             const struct shape *shape = &table->shapes[i];
             draw(shape, size);
-            for (size_t work = 0; work < WORKS; work++) {
+            for (size_t work = 0; work < table->work_count; work++) {
                 must_agree(shape, &table->works[work]);
                 time_both(&table->works[work], medians[i][size][work]);
             }
-            print_row(shape, medians[i][size]);
+            print_row(table, shape, medians[i][size]);
         }
     print_growths(table, medians);
 }

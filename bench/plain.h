@@ -48,4 +48,8 @@ batqemulo_answer plain_pairs_exercise(const uint8_t *marks, size_t marks_len,
 batqemulo_answer plain_listing(const uint8_t *text, size_t text_len, uint8_t *room,
                                size_t room_len);
 
+/* As batqemulo_mend, with the same look-up and the same search for a repeated objection. */
+batqemulo_answer plain_mend(const uint8_t *text, size_t text_len, uint8_t *room, size_t room_len,
+                            uint8_t *report, size_t report_len, uint32_t *report_written);
+
 #endif

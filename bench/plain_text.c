@@ -1,54 +1,7 @@
 /* The library's work on texts as a C programmer would write it by hand: one pass over the bytes,
  * numbers looked up by hashing, then the solver of plain.c and the listing. Nothing here is proved;
  * it is the yardstick of the benchmark. */
-#include "plain.h"
-
-#include <string.h>
-
-/* Slots of the table of numbers: twice the statements that there may be, a power of 2. */
-enum { SLOTS = 2048, SLOT_BITS = 11 };
-
-/* What was read so far. */
-struct page {
-    size_t statements;
-    size_t objections;
-    uint32_t numbers[BATQEMULO_MAX_STATEMENTS];
-    uint8_t marks[BATQEMULO_MAX_STATEMENTS];
-    uint32_t objectors[BATQEMULO_MAX_OBJECTIONS];
-    uint32_t targets[BATQEMULO_MAX_OBJECTIONS];
-    /* the place of a number, counted from 1, so that 0 says there is none */
-    uint16_t slots[SLOTS];
-};
-
-/* The bytes that are still to be read, up to the end of the line. */
-struct line {
-    const uint8_t *at;
-    const uint8_t *end;
-};
-
-/* The slot of a number, or the empty one where it belongs. */
-static uint16_t *slot_of(struct page *page, uint32_t number) {
-    uint32_t slot = (number * 2654435761u) >> (32 - SLOT_BITS);
-    while (page->slots[slot] != 0 && page->numbers[page->slots[slot] - 1] != number)
-        slot = (slot + 1) % SLOTS;
-    return &page->slots[slot];
-}
-
-static int take_byte(struct line *line, uint8_t byte) {
-    if (line->at == line->end || *line->at != byte)
-        return 0;
-    line->at++;
-    return 1;
-}
-
-/* Takes a number, or answers 0, which is none. */
-static uint32_t take_number(struct line *line) {
-    const uint8_t *first = line->at;
-    uint32_t number = 0;
-    while (line->at < line->end && *line->at >= '0' && *line->at <= '9' && line->at < first + 9)
-        number = 10 * number + (uint32_t)(*line->at++ - '0');
-    return line->at == first || line->at == first + 9 || *first == '0' ? 0 : number;
-}
+#include "plain_lines.h"
 
 static uint32_t read_statement(struct page *page, struct line *line) {
     uint32_t number = take_number(line);
@@ -68,13 +21,6 @@ static uint32_t read_statement(struct page *page, struct line *line) {
     page->marks[page->statements] = unread ? BATQEMULO_UNREAD : BATQEMULO_READ;
     *slot = (uint16_t)++page->statements;
     return BATQEMULO_ACCEPTED;
-}
-
-static int is_repeated(const struct page *page, uint32_t objector, uint32_t target) {
-    for (size_t i = 0; i < page->objections; i++)
-        if (page->objectors[i] == objector && page->targets[i] == target)
-            return 1;
-    return 0;
 }
 
 static uint32_t read_objection(struct page *page, struct line *line) {
@@ -122,23 +68,6 @@ static batqemulo_answer read_text(struct page *page, const uint8_t *text, size_t
         at = line.end + 1;
     }
     return answer(BATQEMULO_ACCEPTED, 0);
-}
-
-static uint8_t *put_word(uint8_t *to, const char *word, size_t length) {
-    memcpy(to, word, length);
-    return to + length;
-}
-
-static uint8_t *put_number(uint8_t *to, uint32_t number, uint8_t end) {
-    uint8_t digits[10];
-    size_t count = 0;
-    do
-        digits[count++] = (uint8_t)('0' + number % 10);
-    while ((number /= 10) > 0);
-    while (count > 0)
-        *to++ = digits[--count];
-    *to++ = end;
-    return to;
 }
 
 static uint8_t *put_length(uint8_t *to, uint32_t length) {

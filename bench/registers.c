@@ -92,17 +92,29 @@ static void draw_alone(void) {
     drawn.long_numbers = 1;
 }
 
-const struct shape shapes_of_all[SHAPES_OF_ALL] = {
-    {"random", draw_random}, {"chain", draw_chain},       {"dense", draw_dense},
-    {"star", draw_star},     {"all unread", draw_unread}, {"alone", draw_alone},
-};
+/* As many statements as can all object to each other, in the shortest lines. */
+static void draw_crowd(void) {
+    drawn.small_numbers = 1;
+    drawn.statements = 1;
+    while ((drawn.statements + 1) * (drawn.statements + 1) <= drawn.most_pairs)
+        drawn.statements++;
+    for (size_t pair = 0; pair < drawn.statements * drawn.statements; pair++)
+        add(pair / drawn.statements, pair % drawn.statements);
+}
 
-const struct shape shapes_of_one[SHAPES_OF_ONE] = {
-    {"random", draw_random},
-    {"chain", draw_chain},
-    {"ladder", draw_ladder},
-    {"stairs", draw_stairs},
-};
+/* So many statements, in the shortest lines, and no objection. */
+static void draw_few(size_t statements) {
+    drawn.small_numbers = 1;
+    drawn.statements = statements;
+}
+
+static void draw_none(void) {
+    draw_few(0);
+}
+
+static void draw_one(void) {
+    draw_few(1);
+}
 
 /* The statements at each size; there may be four times as many pairs. */
 static const size_t sizes[SIZES] = {128, 256, 512, 1024};
@@ -110,6 +122,8 @@ static const size_t sizes[SIZES] = {128, 256, 512, 1024};
 /* Four digits, with which the largest register fits a text, or eight; in no order. 8,999 and
  * 89,999,999 have no factor in common with 7,919 and 55,555,553, so that no number comes twice. */
 static unsigned number(size_t place) {
+    if (drawn.small_numbers)
+        return (unsigned)place + 1;
     if (drawn.long_numbers)
         return 10000000 + (unsigned)((uint64_t)place * 55555553 % 89999999);
     return 1000 + (unsigned)(place * 7919 % 8999);
@@ -121,23 +135,77 @@ static void append(const char *line) {
     drawn.bytes += length;
 }
 
-static void write_text(void) {
+static void append_statement(size_t place) {
     char line[24];
-    for (size_t x = 0; x < drawn.statements; x++) {
-        snprintf(line, sizeof line, "S\t%u\t%c\n", number(x), drawn.marks[x] ? 'U' : 'R');
-        append(line);
-    }
-    for (size_t i = 0; i < drawn.pairs; i++) {
-        snprintf(line, sizeof line, "O\t%u\t%u\n", number(drawn.objectors[i]),
-                 number(drawn.targets[i]));
-        append(line);
-    }
+    snprintf(line, sizeof line, "S\t%u\t%c\n", number(place), drawn.marks[place] ? 'U' : 'R');
+    append(line);
 }
+
+static void append_objection(size_t objector, size_t target) {
+    char line[24];
+    snprintf(line, sizeof line, "O\t%u\t%u\n", number(objector), number(target));
+    append(line);
+}
+
+static void write_text(void) {
+    for (size_t x = 0; x < drawn.statements; x++)
+        append_statement(x);
+    for (size_t i = 0; i < drawn.pairs; i++)
+        append_objection(drawn.objectors[i], drawn.targets[i]);
+}
+
+/* Whether the text has space for one more line of the shortest numbers. */
+static int has_space(void) {
+    return drawn.bytes + sizeof "O\t99\t99" <= drawn.most_bytes;
+}
+
+static void wear_blank(void) {
+    while (drawn.bytes < drawn.most_bytes)
+        append("\n");
+}
+
+static void wear_second(void) {
+    while (has_space())
+        append_statement(0);
+}
+
+/* The last objections come again, which are found latest. */
+static void wear_repeats(void) {
+    while (has_space())
+        append_objection(drawn.statements - 1, below(drawn.statements));
+}
+
+static void wear_unknown(void) {
+    while (has_space())
+        append_objection(1 + below(8), 0);
+}
+
+const struct shape shapes_of_all[SHAPES_OF_ALL] = {
+    {"random", draw_random, NULL}, {"chain", draw_chain, NULL},       {"dense", draw_dense, NULL},
+    {"star", draw_star, NULL},     {"all unread", draw_unread, NULL}, {"alone", draw_alone, NULL},
+};
+
+const struct shape shapes_of_one[SHAPES_OF_ONE] = {
+    {"random", draw_random, NULL},
+    {"chain", draw_chain, NULL},
+    {"ladder", draw_ladder, NULL},
+    {"stairs", draw_stairs, NULL},
+};
+
+/* The first is a register, with nothing to mend. */
+const struct shape shapes_of_old[SHAPES_OF_OLD] = {
+    {"random", draw_random, NULL},       {"blank", draw_none, wear_blank},
+    {"seconds", draw_one, wear_second},  {"repeats", draw_crowd, wear_repeats},
+    {"unknown", draw_one, wear_unknown},
+};
 
 void draw(const struct shape *shape, size_t size) {
     memset(&drawn, 0, sizeof drawn);
     drawn.statements = sizes[size];
     drawn.most_pairs = 4 * sizes[size];
+    drawn.most_bytes = BATQEMULO_MAX_TEXT_BYTES * sizes[size] / BATQEMULO_MAX_STATEMENTS;
     shape->draw();
     write_text();
+    if (shape->wear != NULL)
+        shape->wear();
 }

@@ -7,17 +7,20 @@
 /* At every size there are twice the statements of the size before, the last being the limit. */
 enum { SIZES = 4 };
 
-/* The shapes for calls that answer for all statements, and for those that are asked for one, which
- * is the first. */
-enum { SHAPES_OF_ALL = 6, SHAPES_OF_ONE = 4 };
+/* The shapes for calls that answer for all statements, for those that are asked for one, which is
+ * the first, and for the call that mends. */
+enum { SHAPES_OF_ALL = 6, SHAPES_OF_ONE = 4, SHAPES_OF_OLD = 5 };
 
 struct shape {
     const char *name;
     void (*draw)(void);
+    /* fills what is left of the text, for a shape that is to be mended; else NULL */
+    void (*wear)(void);
 };
 
 extern const struct shape shapes_of_all[SHAPES_OF_ALL];
 extern const struct shape shapes_of_one[SHAPES_OF_ONE];
+extern const struct shape shapes_of_old[SHAPES_OF_OLD];
 
 struct drawn {
     size_t statements;
@@ -26,10 +29,12 @@ struct drawn {
     uint8_t marks[BATQEMULO_MAX_STATEMENTS];
     uint32_t objectors[BATQEMULO_MAX_OBJECTIONS];
     uint32_t targets[BATQEMULO_MAX_OBJECTIONS];
-    /* whether the numbers of the text have eight digits */
+    /* whether the numbers of the text have eight digits, and whether they go up from 1 */
     int long_numbers;
+    int small_numbers;
     uint8_t text[BATQEMULO_MAX_TEXT_BYTES];
     size_t bytes;
+    size_t most_bytes;
     /* whether a pair is there, so that none is there twice */
     uint8_t taken[BATQEMULO_MAX_STATEMENTS][BATQEMULO_MAX_STATEMENTS];
 };

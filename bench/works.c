@@ -1,5 +1,5 @@
 /* The calls that are timed, each on the register that is drawn: those that answer for all of its
- * statements, and those that are asked for one. */
+ * statements, those that are asked for one, and the one that mends. */
 #include "works.h"
 
 #include "batqemulo.h"
@@ -22,6 +22,9 @@ static struct rooms {
     uint16_t lengths[BATQEMULO_MAX_STATEMENTS];
     uint8_t listing[BATQEMULO_MAX_LISTING_BYTES];
     uint32_t line[BATQEMULO_MAX_LINE_ENTRIES];
+    uint8_t mended[BATQEMULO_MAX_TEXT_BYTES];
+    uint8_t report[BATQEMULO_MAX_REPORT_BYTES];
+    uint32_t reported;
     uint32_t value;
 } by_library, by_plain;
 
@@ -117,6 +120,22 @@ const struct work works_on_one[WORKS] = {
     {"batqemulo_pairs_line", {line_library, line_plain}},
     {"pairs_exercise, 6 turns", {exercise_library, exercise_plain}},
     {"pairs_exercise, 0 turns", {no_turns_library, no_turns_plain}},
+};
+
+static int mend_library(void) {
+    return take(&by_library,
+                batqemulo_mend(drawn.text, drawn.bytes, by_library.mended, sizeof by_library.mended,
+                               by_library.report, sizeof by_library.report, &by_library.reported));
+}
+
+static int mend_plain(void) {
+    return take(&by_plain,
+                plain_mend(drawn.text, drawn.bytes, by_plain.mended, sizeof by_plain.mended,
+                           by_plain.report, sizeof by_plain.report, &by_plain.reported));
+}
+
+const struct work works_on_old[MENDING_WORKS] = {
+    {"batqemulo_mend", {mend_library, mend_plain}},
 };
 
 int sides_agree(const struct work *work) {

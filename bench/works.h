@@ -6,8 +6,8 @@
 /* The two sides of a comparison. */
 enum { LIBRARY, PLAIN, SIDES };
 
-/* How many works there are in each table. */
-enum { WORKS = 3 };
+/* How many works there are in a table: of calls that answer, and of the one that mends. */
+enum { WORKS = 3, MENDING_WORKS = 1 };
 
 struct work {
     const char *name;
@@ -17,6 +17,7 @@ struct work {
 
 extern const struct work works_on_all[WORKS];
 extern const struct work works_on_one[WORKS];
+extern const struct work works_on_old[MENDING_WORKS];
 
 /* Whether both sides accept the drawn register and fill their rooms alike. */
 int sides_agree(const struct work *work);

@@ -15,8 +15,9 @@
  * answer has. */
 enum { GUARD = 8, GUARD_BYTE = 0xa5, ROOM_BYTE = 0xc3 };
 
-/* All arrays of one request: texts have up to 64 KiB here, listings twice that. */
-enum { SPACE = 1 << 20 };
+/* All arrays of one request: texts have up to 64 KiB here, listings twice that, reports of what was
+ * mended sixteen times that. */
+enum { SPACE = 1 << 21 };
 
 static int requests, replies;
 

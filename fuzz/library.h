@@ -21,7 +21,8 @@ enum call {
     TEXT_LINE = 23,
     TEXT_EXERCISE = 24,
     SHEET = 26,
-    SHEET_UPDATE = 27
+    SHEET_UPDATE = 27,
+    MEND = 28
 };
 
 /* The most arrays that a call takes. */

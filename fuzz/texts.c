@@ -5,6 +5,9 @@
 #include "library.h"
 #include "met.h"
 
+#include <stdio.h>
+#include <stdlib.h>
+
 /* A text with what plain C makes of it. */
 static struct {
     struct page page;
@@ -176,7 +179,54 @@ static void hold_update(const uint8_t *text, size_t len, size_t statements, uint
     hold(&request, right);
 }
 
+/* What plain C makes of a text that is mended. */
+struct mended {
+    uint8_t text[BATQEMULO_MAX_TEXT_BYTES];
+    uint8_t report[BATQEMULO_MAX_REPORT_BYTES];
+    uint32_t reported;
+    batqemulo_answer answer;
+};
+
+static void hold_mend(const uint8_t *text, size_t len, struct mended *mended, uint32_t thrown) {
+    struct request request = {.call = MEND};
+    mended->reported = 0;
+    mended->answer = plain_mend(text, len, mended->text, sizeof mended->text, mended->report,
+                                sizeof mended->report, &mended->reported);
+    batqemulo_answer right = mended->answer;
+    size_t needed = right.refusal == BATQEMULO_ACCEPTED ? right.value : 0;
+    size_t room = near(needed, thrown), report = near(mended->reported, thrown >> 3);
+    if (right.refusal == BATQEMULO_ACCEPTED && (room < needed || report < mended->reported))
+        right = answer(BATQEMULO_ROOM_TOO_SHORT, 0);
+    int accepted = right.refusal == BATQEMULO_ACCEPTED;
+    lend(&request, 1, text, len);
+    lend_room(&request, 1, room, mended->text, accepted ? needed : 0);
+    lend_room(&request, 1, report, mended->report, accepted ? mended->reported : 0);
+    lend_room(&request, 4, 1, &mended->reported, accepted ? 1 : 0);
+    hold(&request, right);
+}
+
+static void must(int good, const char *what) {
+    if (good)
+        return;
+    fprintf(stderr, "%s\n", what);
+    abort();
+}
+
+/* What was mended is accepted, and mended again it stays as it is, with nothing to report. */
+static void hold_mended(const struct mended *mended, uint32_t thrown) {
+    static struct mended again;
+    size_t len = mended->answer.value;
+    hold_mend(mended->text, len, &again, thrown);
+    must(again.answer.value == len && memcmp(again.text, mended->text, len) == 0,
+         "a mended text is mended again");
+    must(again.reported == 0, "a mended text has a report");
+    solve_plainly(mended->text, len);
+    must(plain.found.refusal == BATQEMULO_ACCEPTED, "a mended text is refused");
+    hold_room(TEXT_LABELS, mended->text, len, 1, plain.labels, plain.page.statements, thrown >> 6);
+}
+
 int LLVMFuzzerTestOneInput(const uint8_t *text, size_t len) {
+    static struct mended mended;
     uint32_t thrown = dice(text, len);
     size_t statements = 0;
     solve_plainly(text, len);
@@ -190,5 +240,8 @@ int LLVMFuzzerTestOneInput(const uint8_t *text, size_t len) {
     hold_exercise(text, len, thrown >> 9);
     hold_sheet(text, len, statements, thrown >> 12);
     hold_update(text, len, statements, thrown >> 15);
+    hold_mend(text, len, &mended, thrown >> 18);
+    if (mended.answer.refusal == BATQEMULO_ACCEPTED)
+        hold_mended(&mended, thrown >> 21);
     return 0;
 }

@@ -11,8 +11,8 @@
  *   is 0.
  * - No room may overlap another room or an input. Inputs are only read.
  * - A call on lists takes less than 32 KiB of stack, a call on a text less than 72 KiB, a call for
- *   a reason less than 80 KiB. A call for a line of argument goes as deep as the line is long and
- *   takes less than 256 KiB.
+ *   a reason less than 80 KiB, a call that mends less than 128 KiB. A call for a line of argument
+ *   goes as deep as the line is long and takes less than 256 KiB.
  * - No call allocates, keeps anything from one call to the next or calls back, so calls may run in
  *   several threads at once.
  */
@@ -45,6 +45,9 @@ extern "C" {
 
 /* So many totals go beside a sheet: of the statements that are open, that stand and that fall. */
 #define BATQEMULO_TOTALS 3
+
+/* A room of so many bytes has space for every report of what was mended. */
+#define BATQEMULO_MAX_REPORT_BYTES 1048560
 
 /* The length of what has none: of an open statement, of an idle objection and of a standoff. Every
  * other length is at most BATQEMULO_MAX_STATEMENTS. */
@@ -108,7 +111,8 @@ enum batqemulo_kind {
  * each other. No objection may come twice. There are no blank lines and no spaces. The empty text
  * is a register of no statements.
  *
- * Each call tests the text for these faults, in this order, and reports the first:
+ * Each call but batqemulo_mend tests the text for these faults, in this order, and reports the
+ * first:
  *
  *    1  text_len is over BATQEMULO_MAX_TEXT_BYTES
  *    2  the text is not empty, and its last byte is not 10
@@ -217,6 +221,48 @@ batqemulo_answer batqemulo_reason(const uint8_t *text, size_t text_len, uint32_t
  * Refusals: 1, 2, then 3 to 9 line by line, then 14, 15. */
 batqemulo_answer batqemulo_text_exercise(const uint8_t *text, size_t text_len, uint32_t number,
                                          uint32_t turns);
+
+/* Mends a text: writes a register that every other call accepts into the room, and beside it a
+ * report of what was done. What is a register already is written byte for byte, and its report is
+ * empty. Statements are settled first, then objections. Lines that stay keep their order.
+ *
+ *   cause
+ *     2  dropped: the last line is not ended, whatever it holds
+ *     3  dropped: the line is spoiled
+ *     4  moved: a statement after an objection line, which goes behind the other statements
+ *     5  dropped: a statement, and one with the same number was kept; that one is marked unread
+ *     6  dropped: a statement, and BATQEMULO_MAX_STATEMENTS before it were kept; its number is
+ *        unknown
+ *     7  dropped: an objection whose objector or target is not the number of a kept statement; if
+ *        only the objector is unknown, the target is marked unread
+ *     8  dropped: an objection that was kept before
+ *     9  dropped: an objection, and BATQEMULO_MAX_OBJECTIONS before it were kept; its target is
+ *        marked unread
+ *
+ * A line has one cause: the first that holds of 2, 3, 5, 6 for a statement, and of 2, 3, 7, 8, 9
+ * for an objection; a line that is moved and kept has 4. A number may be named before its
+ * statement. A spoiled line has no other effect, nor has one that is not ended.
+ *
+ * The report has a line for each line that was dropped or moved, in the order of the text, ended by
+ * byte 10, with fields parted by one tab:
+ *
+ *   line  dropped  cause                 line is counted from 1
+ *   line  moved  4
+ *
+ * Where a mark alone was changed, the report has no line.
+ *
+ * The answer's value is how many bytes the mended text has, never more than text_len, and
+ * *report_written how many the report has, never more than BATQEMULO_MAX_REPORT_BYTES.
+ * report_written may not be NULL. On a refusal *report_written is as found, as the two rooms are.
+ *
+ * If only objections of unknown objectors against listed statements were dropped, and nothing was
+ * moved, no falls or stands of the mended register is overturned when the objectors are listed
+ * after all, with any marks and any objections against them, and the dropped objections and the old
+ * marks are put back.
+ * Refusals: 1, then 10 if either room is too short. */
+batqemulo_answer batqemulo_mend(const uint8_t *text, size_t text_len, uint8_t *room,
+                                size_t room_len, uint8_t *report, size_t report_len,
+                                uint32_t *report_written);
 
 /*
  * Registers handed over as lists of pairs.

@@ -12,7 +12,7 @@
 #include <unistd.h>
 
 /* The most arrays that a call takes, and the bytes that one may have with its guards. */
-enum { ARRAYS = 5, SPACE = 1 << 20 };
+enum { ARRAYS = 5, SPACE = 1 << 21 };
 
 /* The numbers of the calls on lists are below this one, those of the calls on a text are not. */
 enum { ON_TEXT = 20 };
@@ -128,6 +128,9 @@ static batqemulo_answer call_on_text(struct request request, const struct array 
     case 27:
         return batqemulo_sheet_update(a[0].lent, a[0].len, a[1].lent, a[1].len, a[2].lent,
                                       a[2].len);
+    case 28:
+        return batqemulo_mend(a[0].lent, a[0].len, a[1].lent, a[1].len, a[2].lent, a[2].len,
+                              a[3].lent);
     }
     stop("a call on a text that is not there");
     return (batqemulo_answer){0, 0};

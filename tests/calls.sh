@@ -77,5 +77,5 @@ while read -r name; do
     try "the name $name is there" name_there "$name"
 done < <(names_said)
 
-try 'there are public calls' test "$(calls | wc -l)" -ge 30
+try 'there are public calls' test "$(calls | wc -l)" -ge 32
 finish

@@ -411,6 +411,73 @@ static void have_sheet_refused(const struct example *e) {
     check(e, "the totals after refusals", memcmp(totals, as_found, sizeof totals) == 0);
 }
 
+/* What is a register already comes back as it is, also into the room that has space for every text,
+ * of which the rest stays as it was. With nothing to report, there need be no room for it. */
+static void mend_register(const struct example *e) {
+    const uint8_t *text = (const uint8_t *)e->text;
+    size_t bytes = strlen(e->text);
+    uint32_t reported = 7;
+    uint8_t *mended = room(bytes);
+    batqemulo_answer answer = batqemulo_mend(text, bytes, mended, bytes, NULL, 0, &reported);
+    check(e, "the mended text",
+          accepted(answer, bytes) && reported == 0 && memcmp(mended, text, bytes) == 0);
+    free(mended);
+    mended = room(BATQEMULO_MAX_TEXT_BYTES);
+    memset(mended, 7, BATQEMULO_MAX_TEXT_BYTES);
+    answer = batqemulo_mend(text, bytes, mended, BATQEMULO_MAX_TEXT_BYTES, NULL, 0, &reported);
+    check(e, "the mended text in a large room",
+          accepted(answer, bytes) && reported == 0 && memcmp(mended, text, bytes) == 0);
+    check(e, "the rest of its room", all_are(mended + bytes, BATQEMULO_MAX_TEXT_BYTES - bytes, 7));
+    free(mended);
+}
+
+/* What an old system has left: a line for each cause that a short text can have. */
+static const struct {
+    struct example as;
+    const char *mended;
+    const char *report;
+} old = {
+    {.name = "an old export",
+     .text = "S\t1\tR\nS\t2\tR\nS\t1\tU\nO\t1\t2\n\nS\t4\tR\nO\t9\t4\nO\t1\t2\nO\t2\t1"},
+    "S\t1\tU\nS\t2\tR\nS\t4\tU\nO\t1\t2\n",
+    "3\tdropped\t5\n5\tdropped\t3\n6\tmoved\t4\n7\tdropped\t7\n8\tdropped\t8\n9\tdropped\t2\n",
+};
+
+/* In rooms of which either is a byte short, then in rooms that are just as long. */
+static void mend_old(void) {
+    const uint8_t *text = (const uint8_t *)old.as.text;
+    size_t bytes = strlen(old.as.text), left = strlen(old.mended), told = strlen(old.report);
+    uint32_t reported = 7;
+    uint8_t *mended = room(left), *report = room(told);
+    memset(mended, 7, left);
+    memset(report, 7, told);
+    batqemulo_answer answer =
+        batqemulo_mend(text, bytes, mended, left - 1, report, told, &reported);
+    check(&old.as, "a short room for the text", refused(answer, BATQEMULO_ROOM_TOO_SHORT, 0));
+    answer = batqemulo_mend(text, bytes, mended, left, report, told - 1, &reported);
+    check(&old.as, "a short room for the report", refused(answer, BATQEMULO_ROOM_TOO_SHORT, 0));
+    check(&old.as, "the rooms after refusals",
+          all_are(mended, left, 7) && all_are(report, told, 7) && reported == 7);
+    answer = batqemulo_mend(text, bytes, mended, left, report, told, &reported);
+    check(&old.as, "what is mended",
+          accepted(answer, left) && memcmp(mended, old.mended, left) == 0);
+    check(&old.as, "what is reported", reported == told && memcmp(report, old.report, told) == 0);
+    free(report);
+    free(mended);
+}
+
+/* Too long a text, whatever it holds, is the one that is not mended. */
+static void have_mend_refused(void) {
+    size_t bytes = BATQEMULO_MAX_TEXT_BYTES + 1;
+    uint32_t reported = 7;
+    uint8_t *text = room(bytes);
+    memset(text, '\n', bytes);
+    batqemulo_answer answer = batqemulo_mend(text, bytes, NULL, 0, NULL, 0, &reported);
+    check(&old.as, "a text that is too long",
+          refused(answer, BATQEMULO_TEXT_TOO_LONG, 0) && reported == 7);
+    free(text);
+}
+
 /* Where every length is 0, every pointer may be NULL. */
 static void ask_of_nothing(void) {
     static const struct example nothing = {.name = "the empty register"};
@@ -434,6 +501,9 @@ static void ask_of_nothing(void) {
           refused(batqemulo_sheet_update(NULL, 0, NULL, 0, NULL, 0), BATQEMULO_ROOM_TOO_SHORT, 0));
     check(&nothing, "no exercise",
           refused(batqemulo_text_exercise(NULL, 0, 1, 0), BATQEMULO_ASKED_UNKNOWN, 0));
+    uint32_t reported = 7;
+    check(&nothing, "nothing to mend",
+          accepted(batqemulo_mend(NULL, 0, NULL, 0, NULL, 0, &reported), 0) && reported == 0);
 }
 
 /* Its sheet has no bytes, but totals. */
@@ -463,6 +533,7 @@ int main(void) {
         ask_reason(examples[i]);
         ask_sheet(examples[i]);
         update_sheet(examples[i]);
+        mend_register(examples[i]);
         ask_open_lines(examples[i]);
         ask_exercise(examples[i]);
         be_refused(examples[i]);
@@ -471,6 +542,8 @@ int main(void) {
         have_reason_refused(examples[i]);
         have_sheet_refused(examples[i]);
     }
+    mend_old();
+    have_mend_refused();
     ask_of_nothing();
     ask_sheet_of_nothing();
     printf("%u passed, %u failed\n", passed, failed);

@@ -31,8 +31,8 @@ exported() {
 right_files() {
     {
         printf '644 %s\n' include/batqemulo.h lib/libbatqemulo.a lib/pkgconfig/batqemulo.pc \
-            share/man/man1/batqemulo-{list,reason}.1 share/man/man3/batqemulo.3
-        printf '755 %s\n' bin/batqemulo-{list,reason}
+            share/man/man1/batqemulo-{list,reason,mend}.1 share/man/man3/batqemulo.3
+        printf '755 %s\n' bin/batqemulo-{list,reason,mend}
         exported | sed 's|.*|644 share/man/man3/&.3|'
     } | sort
 }
@@ -82,6 +82,11 @@ lists() {
 reasons() {
     "${start_list[@]}" "$root/bin/batqemulo-reason" 103 <examples/game.txt |
         cmp - <(grep -e $'^103\tfalls' -e $'\t103\t' examples/game.listing)
+}
+
+mends() {
+    "${start_list[@]}" "$root/bin/batqemulo-mend" "$stage/example.report" <examples/export.txt |
+        cmp - examples/export.mended && cmp "$stage/example.report" examples/export.report
 }
 
 # formats PAGE: groff has nothing to warn of
@@ -139,7 +144,7 @@ same_calls() {
 
 # those of the refusals, of marks, labels and kinds, and the limits
 same_numbers() {
-    numbers | said $((17 + 2 + 3 + 4 + 9))
+    numbers | said $((17 + 2 + 3 + 4 + 10))
 }
 
 # no_others: the man page has no name for a number that the header lacks
@@ -174,12 +179,13 @@ try 'the man page has a C program' c_example
 try 'a C program is built by pkg-config' linked && try 'it runs' runs
 try 'the installed program lists' lists
 try 'the installed program gives reasons' reasons
+try 'the installed program mends' mends
 
 try 'every call is named in the header' named "$header"
 try 'every call is named in the man page' named "$page"
 try 'every call has a man page' leads
 if command -v groff >/dev/null; then
-    for man in "$page" "$root"/share/man/man1/batqemulo-{list,reason}.1; do
+    for man in "$page" "$root"/share/man/man1/batqemulo-{list,reason,mend}.1; do
         try "no warning of ${man##*/}" formats "$man"
     done
     try 'the man page has the calls as the header has them' same_calls

@@ -14,13 +14,6 @@ no_numbers=('' 0 00 05 007 000000005 100000000 500000000 999999999 4294967301 18
     +5 -5 ' 5' '5 ' $'5\t' $'5\n' $'\n5' 5.0 '5,' 5a a5 5R 0x5 5e0 5_0 /5 5: $'\xff5' $'5\xff'
     -- - -h --help 5/6 '5 6' five)
 
-# asking WORD COMMAND..: the command, while the program is given this word
-asking() {
-    local words=("$1")
-    shift
-    "$@"
-}
-
 # numbers FILE: those of the statements, in listed order
 numbers() {
     sed -n 's/^S\t\([0-9]*\)\t.*/\1/p' "$1"
@@ -38,16 +31,6 @@ agrees_on_all() {
 reads() {
     typed "$3" >"$work/right"
     asking "$1" prints "$work/right" <"$2"
-}
-
-# usage WORDS..: with these words nothing is printed, and one line says how the program is used
-usage() {
-    local words=("$@") status
-    ask <"$work/three" >"$work/out" 2>"$work/said"
-    status=$?
-    cat "$work/out" "$work/said"
-    [ ! -s "$work/out" ] && [ "$(wc -l <"$work/said")" -eq 1 ] &&
-        grep -q '^usage: ' "$work/said" && [ "$status" -eq 0 ]
 }
 
 in_a_pipeline() {
@@ -102,10 +85,10 @@ for word in "${no_numbers[@]}"; do
 done
 try 'a number that is not on the register' asking 8 refuses 14 0 <"$work/three"
 try 'any number, of no input' asking 5 refuses 14 0 </dev/null
-try 'no word' usage
-try 'two words' usage 5 6
-try 'two words, of which one is empty' usage 5 ''
-try 'three words' usage 5 6 7
+try 'no word' usage "$work/three"
+try 'two words' usage "$work/three" 5 6
+try 'two words, of which one is empty' usage "$work/three" 5 ''
+try 'three words' usage "$work/three" 5 6 7
 
 refused_texts text_refused_first
 try 'a text that is too long' too_long_first

@@ -20,6 +20,10 @@ static uint32_t objectors[STATEMENTS - 1], targets[STATEMENTS - 1];
 static char text[BATQEMULO_MAX_TEXT_BYTES + 1];
 static size_t text_len;
 
+/* The chain with more lines behind it, of which some are dropped for each cause: what is mended. */
+static char old[BATQEMULO_MAX_TEXT_BYTES + 1];
+static size_t old_len;
+
 static uint8_t bytes[BATQEMULO_MAX_LISTING_BYTES];
 static uint16_t lengths[STATEMENTS];
 static uint32_t line[STATEMENTS];
@@ -28,6 +32,10 @@ static batqemulo_answer answer;
 /* A sheet on which all is open, to be updated. */
 static uint8_t sheet[BATQEMULO_MAX_SHEET_BYTES];
 static uint32_t totals[BATQEMULO_TOTALS] = {STATEMENTS, 0, 0};
+
+/* The report of what was mended. */
+static uint8_t report[BATQEMULO_MAX_REPORT_BYTES];
+static uint32_t reported;
 
 static void make_chain(void) {
     for (uint32_t x = 1; x < STATEMENTS; x++) {
@@ -38,6 +46,15 @@ static void make_chain(void) {
         text_len += (size_t)sprintf(text + text_len, "S\t%u\tR\n", (unsigned)x);
     for (uint32_t x = 1; x < STATEMENTS; x++)
         text_len += (size_t)sprintf(text + text_len, "O\t%u\t%u\n", (unsigned)x + 1, (unsigned)x);
+}
+
+static void make_old(void) {
+    memcpy(old, text, text_len);
+    old_len = text_len;
+    old_len += (size_t)sprintf(old + old_len, "\nS\t1\tR\nS\t2000\tR\nO\t2000\t1\nO\t2\t1\n");
+    for (unsigned i = 0; i < BATQEMULO_MAX_OBJECTIONS; i++)
+        old_len += (size_t)sprintf(old + old_len, "O\t%u\t%u\n", i % 64 + 1, i / 64 + 1);
+    old_len += (size_t)sprintf(old + old_len, "O\t1");
 }
 
 #define PAIRS marks, STATEMENTS, objectors, STATEMENTS - 1, targets, STATEMENTS - 1
@@ -91,6 +108,11 @@ static void fresh_sheet(void) {
     answer = batqemulo_sheet(TEXT, bytes, sizeof bytes, line, STATEMENTS);
 }
 
+static void mend(void) {
+    answer = batqemulo_mend((const uint8_t *)old, old_len, bytes, sizeof bytes, report,
+                            sizeof report, &reported);
+}
+
 static void sheet_update(void) {
     answer = batqemulo_sheet_update(TEXT, sheet, sizeof sheet, totals, BATQEMULO_TOTALS);
 }
@@ -126,10 +148,12 @@ int main(void) {
                  {"sheet", fresh_sheet, 72},
                  {"update of a sheet", sheet_update, 72},
                  {"reason", reason, 80},
+                 {"mending", mend, 128},
                  {"line in lists", pairs_line, 256},
                  {"line in a text", text_line, 256}};
     unsigned passed = 0, failed = 0;
     make_chain();
+    make_old();
     for (size_t k = 0; k < sizeof calls / sizeof *calls; k++) {
         size_t took = used(calls[k].call);
         int ok = answer.refusal == 0 && took < calls[k].kib * KIB;

@@ -1,6 +1,6 @@
-# Sourced by tests/program.sh and tests/reason.sh, each of which tries one program: how it is started
-# and held against the second solver, and the trials that both go through, with inputs that come
-# slowly or cannot be read and outputs that cannot be written.
+# Sourced by tests/program.sh, tests/reason.sh and tests/mend.sh, each of which tries one program: how
+# it is started and held against the second solver, and the trials that all go through, with inputs
+# that come slowly or cannot be read and outputs that cannot be written.
 # shellcheck shell=bash
 
 # tried: the program, which the script names; words: what it is given behind its name
@@ -21,9 +21,20 @@ ask() {
     started timeout 30
 }
 
-# second: what the second solver makes of the text on standard input
+# asking WORD COMMAND..: the command, while the program is given this word
+asking() {
+    local words=("$1")
+    shift
+    "$@"
+}
+
+# second: what the second solver makes of the text on standard input; the file right.report gets what
+# it has to report
 second() {
-    "$built/cargo/release/outside" print "${words[@]}"
+    case $tried in
+    mend) "$built/cargo/release/outside" mend 2>"$work/right.report" ;;
+    *) "$built/cargo/release/outside" print "${words[@]}" ;;
+    esac
 }
 
 # prints RIGHT: the program makes of standard input just what the file holds, and says nothing else
@@ -148,6 +159,16 @@ far_too_long() {
 
 endless() {
     yes | refuses 1 0
+}
+
+# usage FILE WORDS..: with these words nothing is printed, and one line says how the program is used
+usage() {
+    local text=$1 words=("${@:2}") status
+    ask <"$text" >"$work/out" 2>"$work/said"
+    status=$?
+    cat "$work/out" "$work/said"
+    [ ! -s "$work/out" ] && [ "$(wc -l <"$work/said")" -eq 1 ] &&
+        grep -q "^usage: $tried " "$work/said" && [ "$status" -eq 0 ]
 }
 
 # not_read: standard input cannot be read; nothing is printed, and something is said

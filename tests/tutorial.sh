@@ -46,8 +46,10 @@ starter() {
 
 # furnish FOLDER: what a reader has before them: the programs and the examples
 furnish() {
-    starter "$1/list" "$PWD/list"
-    starter "$1/reason" "$PWD/reason"
+    local name
+    for name in list reason mend; do
+        starter "$1/$name" "$PWD/$name"
+    done
     ln -s "$PWD/examples" "$1/examples"
 }
 
@@ -91,7 +93,7 @@ notices() {
     part "$work/changed.md" "$folder"
     furnish "$folder"
     for file in "$folder"/*.command; do
-        grep -q -e '^\./list' -e '^\./reason' "$file" || continue
+        grep -q -e '^\./list' -e '^\./reason' -e '^\./mend' -e '^cat report' "$file" || continue
         prints "$file" || return 0
     done
     return 1
@@ -106,6 +108,8 @@ try 'another kind would be noticed' notices 's/^3005\t3001\tidle/3005\t3001\tdel
 try 'a line left out would be noticed' notices '/^2005\tfalls/d'
 try 'an idle objection in a reason would be noticed' \
     notices '/^\$ .\/reason 3001/,/^```/s/^4001/3005\t3001\tidle\t-\n&/'
+try 'a mark that is not mended would be noticed' notices '/^\$ .\/mend/,/^```/s/^S\t2005\tU/S\t2005\tR/'
+try 'another cause would be noticed' notices 's/^9\tmoved\t4/9\tdropped\t4/'
 try 'a space for a tab would be noticed' notices 's/^REFUSED\t/REFUSED /'
 
 finish

@@ -2,8 +2,10 @@
 //! second solver that shares nothing with it. The words after this program's name are the command
 //! that starts the caller (caller.c); tests/run gives them. Some more uses are for the tests of the
 //! programs: `print` prints what the listing program ought to print, `print WORD` what the reason
-//! program ought to print with this word for its number, `examples FOLDER` writes 01's examples.
-//! One is for fuzz/run: `corpus TEXTS LISTS CALLER WORDS..` tries what lies in two folders.
+//! program ought to print with this word for its number, `mend` what the mending program ought to
+//! print, with its report on standard error, `examples FOLDER` writes 01's examples.
+//! One is for fuzz/run: `corpus TEXTS LISTS CALLER WORDS..` tries what lies in two folders. And
+//! `sampled CALLER WORDS..` leaves out the tests that go through all inputs of a kind.
 
 #![deny(warnings)]
 #![forbid(unsafe_code)]
@@ -18,14 +20,15 @@ mod suites;
 use inputs::examples::EXAMPLES;
 use inputs::text::Text;
 use second::expected::{Expected, Question};
+use second::mend::Mending;
 use second::{listing, text};
 use std::io::{Error, Read, Write};
 use std::path::Path;
 use std::process::ExitCode;
 use suites::Test;
 
-const USAGE: &str = "usage: outside CALLER WORDS.., print, print WORD, examples FOLDER, \
-                     or corpus TEXTS LISTS CALLER WORDS..";
+const USAGE: &str = "usage: outside [sampled] CALLER WORDS.., print, print WORD, mend, examples \
+                     FOLDER, or corpus TEXTS LISTS CALLER WORDS..";
 
 fn main() -> ExitCode {
     let words: Vec<String> = std::env::args().skip(1).collect();
@@ -35,11 +38,15 @@ fn main() -> ExitCode {
         [word, number] if word == "print" => {
             print(reason_for(number)).map_err(|error| error.to_string())
         }
+        [word] if word == "mend" => mend().map_err(|error| error.to_string()),
         [word, folder] if word == "examples" => {
             write_examples(Path::new(folder)).map_err(|error| error.to_string())
         }
         [word, texts, lists, command @ ..] if word == "corpus" && !command.is_empty() => {
             run_tests(&suites::corpus::of(texts.into(), lists.into()), command)
+        }
+        [word, command @ ..] if word == "sampled" && !command.is_empty() => {
+            run_tests(&suites::sampled(), command)
         }
         command => run_tests(&suites::all(), command),
     };
@@ -57,11 +64,27 @@ fn reason_for(word: &str) -> Question {
 
 /// Prints what the second solver answers to this question of the text on standard input.
 fn print(question: Question) -> Result<ExitCode, Error> {
-    let mut text = Text::default();
-    std::io::stdin().read_to_end(&mut text.0)?;
-    let expected = Expected::of_text(&text);
+    let expected = Expected::of_text(&input()?);
     std::io::stdout().write_all(&listing::print(&expected, question))?;
     Ok(ExitCode::SUCCESS)
+}
+
+/// Prints what the second solver makes of the text on standard input when it is mended.
+fn mend() -> Result<ExitCode, Error> {
+    let mending = Mending::of(&input()?);
+    match mending.refusal {
+        None => std::io::stdout().write_all(&mending.text.0)?,
+        Some(refusal) => std::io::stdout().write_all(&listing::refused(refusal))?,
+    }
+    std::io::stderr().write_all(mending.report.as_bytes())?;
+    Ok(ExitCode::SUCCESS)
+}
+
+/// The text on standard input.
+fn input() -> Result<Text, Error> {
+    let mut text = Text::default();
+    std::io::stdin().read_to_end(&mut text.0)?;
+    Ok(text)
 }
 
 /// Writes the text of each example of 01, and beside it what the program ought to print.

@@ -15,7 +15,8 @@ use Rattle.answer.specs.declared.Answer.{Answer}
 use Rattle.answer.proofs.Promises.{Exactly, asks-once, asks-none}
 use Rattle.solved.proofs.Laws.{place-once, text-unique}
 use Rattle.solved.proofs.Lists.{asked-exactly, list-apart, list-unique}
-use Rattle.asked.specs.Asked.{byNumber, LineIn, LineShort, TextLine, ExerciseIn, TextExercise}
+use Rattle.asking.specs.Asking.{byNumber, LineIn, LineShort, ExerciseIn}
+use Rattle.asked.specs.Asked.{TextLine, TextExercise}
 use Rattle.text.specs.Reads.{Accepts}
 
 -- a statement has one line of argument, and told by numbers it is as long

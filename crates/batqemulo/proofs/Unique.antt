@@ -3,18 +3,26 @@ use mathlib.Core.List.{List}
 use mathlib.Core.Path.{_≡_, sym, _∙_, ap}
 use Prim.Native.Nat.{ℕ}
 use Rattle.answer.specs.declared.Answer.{Answer}
-use Rattle.on_lists.specs.Lists.{PairsLabels, PairsLengths, PairsKinds, MovesLabels, MovesLengths, PairsLine, PairsExercise}
-use Rattle.on_lists.proofs.Unique.{unique-pairs-labels, unique-pairs-lengths, unique-pairs-kinds, unique-moves-labels, unique-moves-lengths, unique-pairs-line, unique-pairs-exercise}
-use Rattle.on_text.specs.Texts.{TextLabels, TextLengths, TextListing}
-use Rattle.on_text.proofs.Unique.{unique-text-labels, unique-text-lengths, unique-text-listing}
+use Rattle.on_lists.specs.Lists.{PairsLabels, PairsLengths, MovesLabels, MovesLengths}
+use Rattle.kinds_on_lists.specs.Objections.{PairsKinds}
+use Rattle.asked_on_lists.specs.Place.{PairsLine, PairsExercise}
+use Rattle.on_lists.proofs.Unique.{unique-pairs-labels, unique-pairs-lengths, unique-moves-labels, unique-moves-lengths}
+use Rattle.kinds_on_lists.proofs.Unique.{unique-pairs-kinds}
+use Rattle.asked_on_lists.proofs.Unique.{unique-pairs-line, unique-pairs-exercise}
+use Rattle.labels_on_text.specs.Statements.{TextLabels, TextLengths}
+use Rattle.on_text.specs.Texts.{TextListing}
+use Rattle.labels_on_text.proofs.Unique.{unique-text-labels, unique-text-lengths}
+use Rattle.on_text.proofs.Unique.{unique-text-listing}
 use Rattle.asked.specs.Asked.{TextLine, TextExercise}
 use Rattle.asked.proofs.Unique.{unique-text-line, unique-text-exercise}
 use Rattle.reasons.specs.Reasons.{TextReason}
 use Rattle.reasons.proofs.Unique.{unique-text-reason}
 use Rattle.sheets.specs.Sheets.{TextSheet, TextSheetUpdate}
 use Rattle.sheets.proofs.Unique.{unique-text-sheet, unique-text-sheet-update}
-use Rattle.batqemulo.specs.InC.{inC, InC}
-use Rattle.batqemulo.specs.declared.CAnswer.{CAnswer}
+use Rattle.mends.specs.Mends.{Lent, TextMend}
+use Rattle.mends.proofs.Unique.{unique-text-mend}
+use Rattle.in_c.specs.InC.{inC, InC}
+use Rattle.in_c.specs.declared.CAnswer.{CAnswer}
 
 pub in-c-unique : {Rooms : Type 0} (P : Answer → Rooms → Type 0)
     → ((a a′ : Answer) (after after′ : Rooms) → P a after → P a′ after′ → (a ≡ a′) × (after ≡ after′))
@@ -99,3 +107,7 @@ unique-batqemulo-pairs-exercise marks objectors targets place turns =
 pub unique-batqemulo-text-exercise : (s : List ℕ) (number turns : ℕ) (c c′ : CAnswer) → InC (TextExercise s number turns) c
     → InC (TextExercise s number turns) c′ → c ≡ c′
 unique-batqemulo-text-exercise s number turns = one-answer (TextExercise s number turns) (unique-text-exercise s number turns)
+
+pub unique-batqemulo-mend : (s : List ℕ) (lent : Lent) (c c′ : CAnswer) (after after′ : Lent) → InC (λ a. TextMend s lent a after) c
+    → InC (λ a. TextMend s lent a after′) c′ → (c ≡ c′) × (after ≡ after′)
+unique-batqemulo-mend s lent = in-c-unique (TextMend s lent) (unique-text-mend s lent)

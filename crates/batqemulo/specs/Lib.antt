@@ -1,2 +1,1 @@
-pub mod InC
 pub mod Demands

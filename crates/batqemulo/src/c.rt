@@ -1,25 +1,16 @@
 // What C calls, by the names of include/batqemulo.h. Each function only turns the answer of a call into two numbers.
-use crate::CAnswer;
-use answer::Answer;
-ghost use mathlib.Core.Path.{_≡_};
-ghost use Rattle.batqemulo.specs.InC.{inC, InC};
-ghost use Rattle.on_lists.specs.Lists.{PairsLabels, PairsLengths, PairsKinds, MovesLabels, MovesLengths, PairsLine, PairsExercise};
-ghost use Rattle.on_text.specs.Texts.{TextLabels, TextLengths, TextListing};
+use in_c::CAnswer;
+use in_c::in_c;
+ghost use Rattle.in_c.specs.InC.{InC};
+ghost use Rattle.on_lists.specs.Lists.{PairsLabels, PairsLengths, MovesLabels, MovesLengths};
+ghost use Rattle.kinds_on_lists.specs.Objections.{PairsKinds};
+ghost use Rattle.asked_on_lists.specs.Place.{PairsLine, PairsExercise};
+ghost use Rattle.labels_on_text.specs.Statements.{TextLabels, TextLengths};
+ghost use Rattle.on_text.specs.Texts.{TextListing};
 ghost use Rattle.asked.specs.Asked.{TextLine, TextExercise};
 ghost use Rattle.reasons.specs.Reasons.{TextReason};
 ghost use Rattle.sheets.specs.Sheets.{TextSheet, TextSheetUpdate};
-
-fn in_c(answer: Answer) -> CAnswer
-    ensures { λ c. ⌜ c ≡ inC answer ⌝ }
-{
-    match answer {
-        Answer::Refused(refused) => CAnswer {
-            refusal: refusal::number(refused),
-            value: refusal::place(refused),
-        },
-        Answer::Given(value) => CAnswer { refusal: 0, value },
-    }
-}
+ghost use Rattle.mends.specs.Mends.{TextMend};
 
 // Labels of pairs.
 #[no_mangle]
@@ -61,7 +52,7 @@ pub extern "C" fn batqemulo_pairs_kinds(
     ensures { λ c. ⌜ InC (λ a. PairsKinds (now (marks .entry)) (now (objectors .entry)) (now (targets .entry))
         (now (kinds .entry), now (lengths .entry)) a (now (kinds .exit), now (lengths .exit))) c ⌝ }
 {
-    in_c(on_lists::pairs_kinds(marks, objectors, targets, kinds, lengths))
+    in_c(kinds_on_lists::pairs_kinds(marks, objectors, targets, kinds, lengths))
 }
 
 // Labels of moves.
@@ -97,7 +88,7 @@ pub extern "C" fn batqemulo_moves_lengths(
 pub extern "C" fn batqemulo_text_labels(text: &[u8], labels: &mut [u8]) -> CAnswer
     ensures { λ c. ⌜ InC (λ a. TextLabels (now (text .entry)) (now (labels .entry)) a (now (labels .exit))) c ⌝ }
 {
-    in_c(on_text::text_labels(text, labels))
+    in_c(labels_on_text::text_labels(text, labels))
 }
 
 // Lengths of a register text.
@@ -105,7 +96,7 @@ pub extern "C" fn batqemulo_text_labels(text: &[u8], labels: &mut [u8]) -> CAnsw
 pub extern "C" fn batqemulo_text_lengths(text: &[u8], lengths: &mut [u16]) -> CAnswer
     ensures { λ c. ⌜ InC (λ a. TextLengths (now (text .entry)) (now (lengths .entry)) a (now (lengths .exit))) c ⌝ }
 {
-    in_c(on_text::text_lengths(text, lengths))
+    in_c(labels_on_text::text_lengths(text, lengths))
 }
 
 // The listing of a text.
@@ -128,7 +119,7 @@ pub extern "C" fn batqemulo_pairs_line(
     ensures { λ c. ⌜ InC (λ a. PairsLine (now (marks .entry)) (now (objectors .entry)) (now (targets .entry)) place
         (now (line .entry)) a (now (line .exit))) c ⌝ }
 {
-    in_c(on_lists::pairs_line(marks, objectors, targets, place, line))
+    in_c(asked_on_lists::pairs_line(marks, objectors, targets, place, line))
 }
 
 // The class exercise on pairs.
@@ -142,7 +133,7 @@ pub extern "C" fn batqemulo_pairs_exercise(
 ) -> CAnswer
     ensures { λ c. ⌜ InC (PairsExercise (now (marks .entry)) (now (objectors .entry)) (now (targets .entry)) place turns) c ⌝ }
 {
-    in_c(on_lists::pairs_exercise(marks, objectors, targets, place, turns))
+    in_c(asked_on_lists::pairs_exercise(marks, objectors, targets, place, turns))
 }
 
 // The line of argument in a text.
@@ -189,4 +180,18 @@ pub extern "C" fn batqemulo_sheet_update(
         (now (sheet .exit), now (totals .exit))) c ⌝ }
 {
     in_c(sheets::text_sheet_update(text, sheet, totals))
+}
+
+// The mended text and the report of what was dropped and moved.
+#[no_mangle]
+pub extern "C" fn batqemulo_mend(
+    text: &[u8],
+    room: &mut [u8],
+    report: &mut [u8],
+    report_written: &mut u32,
+) -> CAnswer
+    ensures { λ c. ⌜ InC (λ a. TextMend (now (text .entry)) (now (room .entry), now (report .entry), now («report_written» .entry)) a
+        (now (room .exit), now (report .exit), now («report_written» .exit))) c ⌝ }
+{
+    in_c(mends::text_mend(text, room, report, report_written))
 }

@@ -14,32 +14,46 @@ use Rattle.game.specs.declared.Kind.the-variants.{Idle}
 use Rattle.game.proofs.Objection.{kind-unique}
 use Rattle.pairs.specs.Refuses.{Lists, Refuses}
 use Rattle.pairs.proofs.Laws as pairs
-use Rattle.text.specs.Register.{Register, numbers, objectorNumbers, targetNumbers, Issued, objectorsOf, targetsOf, book}
+use Rattle.text.specs.Register.{Register, numbers, objectorNumbers, targetNumbers, written, Issued, objectorsOf, targetsOf, book}
 use Rattle.text.proofs.Order.{mapped, marks-counted, numbers-counted}
 use Rattle.text.proofs.Unique as text
 use Rattle.text.proofs.Settled as settled
 use Rattle.listing.specs.Listing.{IsListing}
 use Rattle.listing.proofs.Listing.{listing-once}
 use Rattle.refusal.specs.declared.Refusal.{Refusal}
+use Rattle.refusal.specs.declared.Refusal.the-variants.{TooLong}
 use Rattle.answer.specs.Answer.{Promised, Written, Short, Asks}
 use Rattle.answer.proofs.Promises.{asks-none}
 use Rattle.answer.specs.declared.Answer.{Answer}
 use Rattle.answer.specs.declared.Answer.the-variants.{Refused, Given}
-use Rattle.on_lists.specs.Lists.{ListsRefuse, KindsShort, PairsLabels, PairsLengths, PairsKinds, PairsLine, ExerciseGiven, PairsExercise, MovesLabels, MovesLengths}
-use Rattle.on_lists.specs.Lists as lists
-use Rattle.on_lists.proofs.Unique.{unique-pairs-labels, unique-pairs-lengths, unique-pairs-kinds, unique-pairs-line, unique-pairs-exercise}
+use Rattle.on_lists.specs.Lists.{ListsRefuse, PairsLabels, PairsLengths, MovesLabels, MovesLengths}
+use Rattle.kinds_on_lists.specs.Objections.{KindsShort, PairsKinds}
+use Rattle.asked_on_lists.specs.Place.{PairsLine, ExerciseGiven, PairsExercise}
+use Rattle.asked_on_lists.specs.Place as lists
+use Rattle.on_lists.proofs.Unique.{unique-pairs-labels, unique-pairs-lengths}
+use Rattle.kinds_on_lists.proofs.Unique.{unique-pairs-kinds}
+use Rattle.asked_on_lists.proofs.Unique.{unique-pairs-line, unique-pairs-exercise}
 use Rattle.solved.specs.Solved.{TextRefuses, Places}
 use Rattle.solved.proofs.Laws.{text-apart, place-once}
 use Rattle.solved.proofs.Lists.{list-unique}
-use Rattle.on_text.specs.Texts.{ListingShort, TextLabels, TextLengths, TextListing}
-use Rattle.on_text.proofs.Unique.{unique-text-labels, unique-text-lengths, unique-text-listing}
-use Rattle.asked.specs.Asked.{byNumber, ExerciseIn, TextLine, TextExercise}
+use Rattle.labels_on_text.specs.Statements.{TextLabels, TextLengths}
+use Rattle.on_text.specs.Texts.{ListingShort, TextListing}
+use Rattle.labels_on_text.proofs.Unique.{unique-text-labels, unique-text-lengths}
+use Rattle.on_text.proofs.Unique.{unique-text-listing}
+use Rattle.asking.specs.Asking.{byNumber, ExerciseIn}
+use Rattle.asked.specs.Asked.{TextLine, TextExercise}
 use Rattle.asked.proofs.Unique.{unique-text-exercise}
 use Rattle.reasons.specs.Reasons.{IsReason, TextReason}
 use Rattle.reasons.proofs.Reasons.{reason-once}
 use Rattle.sheet.specs.Sheet.{codeAt, bytesFor, codes, IsSheet}
-use Rattle.sheets.specs.Sheets.{SheetShort, OldSheet, UpdateRefused, TextSheet, TextSheetUpdate}
+use Rattle.sheet_rooms.specs.Rooms.{SheetShort, OldSheet, UpdateRefused}
+use Rattle.sheets.specs.Sheets.{TextSheet, TextSheetUpdate}
 use Rattle.sheets.proofs.Unique.{unique-text-sheet, unique-text-sheet-update}
+use Rattle.mended.specs.Mended.{mended, fates}
+use Rattle.mended.proofs.Lines.{lines-once}
+use Rattle.report.specs.Report.{reportOf}
+use Rattle.mends.specs.Mends.{Lent, MendedShort, Lined, MendRefused, TextMend}
+use Rattle.mends.proofs.Unique.{unique-text-mend}
 use Rattle.batqemulo.specs.Demands.{Settled, Answers, LabelSays, LengthSays, KindSays}
 use Rattle.demands.proofs.Says.{label-says, length-says, kind-says}
 use Rattle.text.specs.Reads.{Accepts}
@@ -239,6 +253,21 @@ module _ (s : List ℕ) where
       (λ r p f. text-apart s (λ R. UpdateRefused (book R) rooms) r (f .0) p (f .1)
       (⊎-elim (λ h. h .0 (f .2)) (λ h. omega (arith, h .1 .0, f .3))))
       (λ n after (R, a, (old, (l, is, w, t))). (R, a, old, t .fits))
+
+  -- a text that is to be mended need not be a register
+  pub text-mend-answers : (lent : Lent) → Answers (Lined s (λ ls. (length (written (mended ls)) ≤ length (lent .0))
+      × (length (reportOf (fates ls)) ≤ length (lent .1)))) (λ r. (65535 < length s) × (r ≡ TooLong)) (TextMend s lent) lent
+  text-mend-answers lent =
+      answers _ _ (λ r. (65535 < length s) × (r ≡ TooLong)) (Lined s (λ ls. (length (written (mended ls)) ≤ length (lent .0))
+      × (length (reportOf (fates ls)) ≤ length (lent .1)))) lent
+      (λ a a′ after after′ p q. unique-text-mend s lent a a′ after after′ p q .0) (λ r. inl) amiss
+      (λ n after (h, (ls, p, (w, v))). (h, (ls, p, (w .1, v .1))))
+    where
+      amiss : (r : Refusal) → MendRefused s lent r → Lined s (λ ls. (length (written (mended ls)) ≤ length (lent .0))
+          × (length (reportOf (fates ls)) ≤ length (lent .1))) → ⊥
+      amiss r (inl p) f = omega (arith, p .0, f .0)
+      amiss r (inr ((h, (ls, p, short)), e)) (k, (ms, q, (a, b))) =
+          ⊎-elim (λ l. omega (arith, l, a)) (λ l. omega (arith, l, b)) (subst (λ u. MendedShort u lent) (lines-once s ls ms p q) short)
 
   pub text-exercise-answers : (number turns : ℕ) → Answers {Rooms = Unit {0}}
       ((R : Register) × Accepts s R × Issued R number × (turns ≤ 6)) (reads.Refuses s) (λ a after. TextExercise s number turns a)

@@ -26,8 +26,8 @@ use Rattle.answer.specs.declared.Answer.{Answer}
 use Rattle.answer.specs.declared.Answer.the-variants.{Refused, Given}
 use Rattle.on_lists.specs.Lists.{Statements, PairsLabels, PairsLengths}
 use Rattle.on_lists.proofs.Unique.{unique-pairs-labels, unique-pairs-lengths}
-use Rattle.on_text.specs.Texts.{TextStatements, TextLabels, TextLengths}
-use Rattle.on_text.proofs.Unique.{unique-text-labels, unique-text-lengths}
+use Rattle.labels_on_text.specs.Statements.{TextStatements, TextLabels, TextLengths}
+use Rattle.labels_on_text.proofs.Unique.{unique-text-labels, unique-text-lengths}
 use Rattle.text.specs.Reads.{Accepts}
 
 -- a room of as many entries as there are statements, with a number of each one's verdict

@@ -1,4 +1,1 @@
-pub mod Entries
 pub mod Exercise
-pub mod Steps
-pub mod Table

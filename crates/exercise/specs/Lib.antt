@@ -1,2 +1,1 @@
 pub mod Exercise
-pub mod Known

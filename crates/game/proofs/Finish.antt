@@ -120,6 +120,12 @@ module _ (B F : Book) (fin : Extends B F) where
         stands-by F n x (fin .stays-read x h (stands-read B (suc n) x t))
         (λ y o. let p = fin .adds-none y x h (stands-read B (suc n) x t) o in falls-grow n y (p .0) (stands-at B n x t y p))
 
+  pub falls-still : (n x : ℕ) → x < B .size → Means B x (falls n) → (m : ℕ) × (m ≤ n) × Means F x (falls m)
+  falls-still n x h p = falls-within F n x .0 (falls-grow n x h (means-ruled B x (falls n) p .0))
+
+  pub stands-still : (n x : ℕ) → x < B .size → Means B x (stands n) → (m : ℕ) × (m ≤ n) × Means F x (stands m)
+  stands-still n x h p = stands-within F n x .0 (stands-grow n x h (means-ruled B x (stands n) p .0))
+
 -- The finish in which every unread statement objects to itself, and nothing else is new.
 module _ (B : Book) where
   pub plain : Book
@@ -202,10 +208,8 @@ module _ (B : Book) where
 
   pub falls-no-later : (F : Book) → Finish B F → (n x : ℕ) → x < B .size → Means B x (falls n) → (m : ℕ) × (m ≤ n)
       × Means F x (falls m)
-  falls-no-later F fin n x h p =
-      falls-within F n x .0 (falls-grow B F (finish-extends B F fin) n x h (means-ruled B x (falls n) p .0))
+  falls-no-later F fin = falls-still B F (finish-extends B F fin)
 
   pub stands-no-later : (F : Book) → Finish B F → (n x : ℕ) → x < B .size → Means B x (stands n) → (m : ℕ) × (m ≤ n)
       × Means F x (stands m)
-  stands-no-later F fin n x h p =
-      stands-within F n x .0 (stands-grow B F (finish-extends B F fin) n x h (means-ruled B x (stands n) p .0))
+  stands-no-later F fin = stands-still B F (finish-extends B F fin)

@@ -16,7 +16,7 @@ use Rattle.game.proofs.Agree.{agrees-means}
 use Rattle.game.proofs.Lists.{objects-entry}
 use Rattle.chain.specs.Handed.{Handed}
 use Rattle.label.specs.Labelled.{Labelled}
-use Rattle.label.specs.State.{Sound, Full}
+use Rattle.begun.specs.State.{Sound, Full}
 
 -- what a label's number and a length's number say
 abbrev pick : Bool → Verdict → Verdict → Verdict

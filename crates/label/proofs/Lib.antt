@@ -1,7 +1,3 @@
-pub mod Steps
-pub mod Counts
-pub mod Links
-pub mod Runs
 pub mod Agreement
 pub mod Ends
 pub mod Parts

@@ -1,3 +1,1 @@
 pub mod Labelled
-pub mod State
-pub mod Queue

@@ -1,5 +1,6 @@
 // Reads a register text from standard input and prints its listing, or the one line of its refusal. What is printed is
 // settled by `output`, hence by the library; the rest only moves bytes.
+use libc::STDOUT_FILENO;
 use stream::Input;
 ghost use Prim.Native.Nat.{_≤_};
 ghost use lib.ListN.{length, take};
@@ -17,7 +18,7 @@ fn output(text: &[u8], room: &mut [u8]) -> usize
 fn print_listing(text: &[u8]) {
     let mut room = [0u8; 131072];
     let n = output(text, &mut room);
-    if !stream::print_pieces(&room, n) {
+    if !stream::write_pieces(STDOUT_FILENO, &room, n) {
         os::fail(b"list: standard output");
     }
 }

@@ -1,8 +1,7 @@
--- The rows up to a place, how long they are, and that they are those of the lists.
-use mathlib.Core.List.{List, [], _∷_, _++_, append-assoc, map}
-use mathlib.Core.Path.{_≡_, refl, sym, ap, ap₂, _∙_}
-use Prim.Native.Nat.{ℕ, zero, suc, _+_, _-_, _*_, _≤_, _<_}
-use native.Mathlib.Numerals.{add-one}
+-- The rows of the lists: that they are those of the listing, and how long they are.
+use mathlib.Core.List.{List, [], _∷_, _++_, map}
+use mathlib.Core.Path.{_≡_, refl, sym, ap, _∙_}
+use Prim.Native.Nat.{ℕ, zero, suc, _+_, _*_, _≤_, _<_}
 use native.Mathlib.Nat.{not-suc-le-zero}
 use native.Mathlib.Omega.{arith}
 use lib.ListN.{length, getD, length-append}
@@ -10,53 +9,12 @@ use Rattle.game.specs.Label.{Verdict}
 use Rattle.game.specs.declared.Kind.{Kind}
 use Rattle.line.specs.declared.StatementLine.{StatementLine}
 use Rattle.line.specs.declared.ObjectionLine.{ObjectionLine}
+use Rattle.writing.specs.Rows.{rowsTo}
 use Rattle.rows.specs.Rows.{header, statementRow, objectionRow}
 use Rattle.listing.specs.Listing.{statementRows, objectionRows}
-use Rattle.listing.specs.Parts.{verdictAt, kindAt, rowsTo, statementAt, objectionAt, statementPart, objectionPart, whole}
+use Rattle.listing.specs.Parts.{verdictAt, kindAt, statementAt, objectionAt, statementPart, objectionPart, whole}
+use Rattle.writing.proofs.Rows.{no-rows, rows-small, row-first}
 use Rattle.rows.proofs.Rows.{statement-small, objection-small}
-
--- Rows up to a place.
-module _ (row : ℕ → List ℕ) where
-  pub no-rows : rowsTo 0 row ≡ []
-  unfolding rowsTo
-  no-rows = refl
-
-  pub row-more : (n : ℕ) → rowsTo (n + 1) row ≡ rowsTo n row ++ row n
-  unfolding rowsTo
-  row-more n = rw add-one refl
-
-  pub rows-longer : (n : ℕ) → length (rowsTo (n + 1) row) ≡ length (rowsTo n row) + length (row n)
-  rows-longer n = ap length (row-more n) ∙ length-append (rowsTo n row) (row n)
-
-  -- fewer rows are no longer
-  pub rows-fewer : (n m : ℕ) → n ≤ m → length (rowsTo n row) ≤ length (rowsTo m row)
-  rows-fewer n m h = go (m - n) m (omega arith)
-    where
-      go : (d m : ℕ) → n + d ≡ m → length (rowsTo n row) ≤ length (rowsTo m row)
-      go zero m e = let q : n ≡ m = omega arith in rw q (omega arith)
-      go (suc d) m e =
-          let q : m ≡ (n + d) + 1 = omega arith in rw q (let i : length (rowsTo n row) ≤ length (rowsTo (n + d) row) = go d
-          (n + d) refl in omega (arith, rows-longer (n + d)))
-
-  pub rows-small : ((i : ℕ) → length (row i) ≤ 64) → (n : ℕ) → length (rowsTo n row) ≤ 64 * n
-  unfolding rowsTo
-  rows-small h zero = omega arith
-  rows-small h (suc n) = omega (arith, length-append (rowsTo n row) (row n), rows-small h n, h n)
-
-  -- the first row, and those behind it
-  pub row-first : (n : ℕ) → rowsTo (suc n) row ≡ row 0 ++ rowsTo n (λ i. row (suc i))
-  unfolding rowsTo
-  row-first zero = sym (nil (row 0))
-    where
-      nil : (u : List ℕ) → u ++ [] ≡ u
-      nil [] = refl
-      nil (x ∷ u) = ap (λ v. x ∷ v) (nil u)
-  row-first (suc n) = ap (λ u. u ++ row (suc n)) (row-first n) ∙ append-assoc (row 0) (rowsTo n (λ i. row (suc i))) (row (suc n))
-
-pub rows-same : (n : ℕ) (row row′ : ℕ → List ℕ) → ((i : ℕ) → i < n → row i ≡ row′ i) → rowsTo n row ≡ rowsTo n row′
-unfolding rowsTo
-rows-same zero row row′ h = refl
-rows-same (suc n) row row′ h = ap₂ (λ a b. a ++ b) (rows-same n row row′ (λ i l. h i (omega arith))) (h n (omega arith))
 
 -- A list of what a function says of 0, 1, .. n - 1.
 module _ {A : Type 0} where
@@ -98,12 +56,12 @@ objection-rows (o ∷ O) κ =
 module _ (nums labels lengths : List ℕ) where
   pub statements-small : (n : ℕ) → length (rowsTo n (statementAt nums labels lengths)) ≤ 64 * n
   statements-small =
-      rows-small (statementAt nums labels lengths) (λ i. statement-small (getD nums i 0) (verdictAt labels lengths i))
+      rows-small (statementAt nums labels lengths) 64 (λ i. statement-small (getD nums i 0) (verdictAt labels lengths i))
 
   pub objections-small : (objectors targets : List ℕ) (m : ℕ)
       → length (rowsTo m (objectionAt nums objectors targets labels lengths)) ≤ 64 * m
   objections-small objectors targets =
-      rows-small (objectionAt nums objectors targets labels lengths)
+      rows-small (objectionAt nums objectors targets labels lengths) 64
       (λ k. objection-small (getD nums (getD objectors k 0) 0) (getD nums (getD targets k 0) 0)
       (kindAt objectors targets labels lengths k))
 

@@ -17,12 +17,14 @@ use Rattle.line.specs.declared.ObjectionLine.{ObjectionLine}
 use Rattle.text.specs.Register.{Register, numbers, objectorNumbers, targetNumbers, marksOf, objectorsOf, targetsOf, book}
 use Rattle.text.proofs.Order.{number-there, numbers-counted, marks-counted, objectors-counted, register-in-order}
 use Rattle.solved.specs.Solved.{Ready}
+use Rattle.writing.specs.Rows.{rowsTo}
 use Rattle.rows.specs.Rows.{header, objectionRow}
 use Rattle.rows.specs.Said.{said}
 use Rattle.listing.specs.Listing.{statementRows, objectionRows, listing, IsListing}
-use Rattle.listing.specs.Parts.{verdictAt, orIdle, kindAt, rowsTo, statementAt, objectionAt, statementPart, objectionPart, whole, Lists}
+use Rattle.listing.specs.Parts.{verdictAt, orIdle, kindAt, statementAt, objectionAt, statementPart, objectionPart, whole, Lists}
+use Rattle.writing.proofs.Rows.{rows-same}
 use Rattle.rows.proofs.Said.{said-falls, said-stands, said-open}
-use Rattle.listing.proofs.Parts.{rows-same, upTo, length-upTo, getD-upTo, statement-rows, objection-rows}
+use Rattle.listing.proofs.Parts.{upTo, length-upTo, getD-upTo, statement-rows, objection-rows}
 
 told-said : (v : Verdict) (l n : ℕ) → l ≡ labelNumber v → n ≡ lengthNumber v → said l n ≡ v
 told-said is-open l n p q = said-open l n (λ e. omega arith) (λ e. omega arith)

@@ -1,9 +1,9 @@
 -- What the inner functions promise, not for callers: the rows by the numbers of labels and lengths, of which those before a place
 -- are written so far.
-use mathlib.Core.List.{List, [], _++_}
+use mathlib.Core.List.{List, _++_}
 use mathlib.Core.Option.{Option, some, none}
 use mathlib.Core.Path.{_≡_}
-use Prim.Native.Nat.{ℕ, zero, suc, _≤_}
+use Prim.Native.Nat.{ℕ, _≤_}
 use lib.ListN.{length, getD}
 use Rattle.game.specs.Book.{bookOf}
 use Rattle.game.specs.Label.{Verdict}
@@ -12,6 +12,7 @@ use Rattle.game.specs.declared.Kind.{Kind}
 use Rattle.game.specs.declared.Kind.the-variants.{Idle}
 use Rattle.chain.specs.Handed.{Handed}
 use Rattle.label.specs.Labelled.{Labelled}
+use Rattle.writing.specs.Rows.{rowsTo}
 use Rattle.rows.specs.Rows.{header, statementRow, objectionRow}
 use Rattle.rows.specs.Said.{said}
 
@@ -26,11 +27,6 @@ orIdle none = Idle
 abbrev pub kindAt : (objectors targets labels lengths : List ℕ) → ℕ → Kind
 kindAt objectors targets labels lengths k =
     orIdle (kindOf (verdictAt labels lengths (getD targets k 0)) (verdictAt labels lengths (getD objectors k 0)))
-
--- the rows 0, 1, .. n - 1
-unfoldable pub rowsTo : ℕ → (ℕ → List ℕ) → List ℕ
-rowsTo zero row = []
-rowsTo (suc n) row = rowsTo n row ++ row n
 
 abbrev pub statementAt : (nums labels lengths : List ℕ) → ℕ → List ℕ
 statementAt nums labels lengths i = statementRow (getD nums i 0) (verdictAt labels lengths i)

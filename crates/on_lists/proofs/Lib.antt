@@ -1,3 +1,2 @@
 pub mod Solving
-pub mod Asking
 pub mod Unique

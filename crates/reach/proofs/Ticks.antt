@@ -7,7 +7,7 @@ use native.Mathlib.Omega.{arith}
 use lib.Dec.{lit<}
 use lib.ListN.{length, getD, set, length-set}
 use Rattle.chain.proofs.Links.{stored, split}
-use Rattle.label.proofs.Steps.{zeros-set, zeros-all}
+use Rattle.begun.proofs.Steps.{zeros-set, zeros-all}
 use Rattle.reach.specs.Reach.{Ticked, Queued, Grown}
 
 pub queued-none : (n : ℕ) (room queue : List ℕ) → length room ≡ n → n ≤ length queue → ((x : ℕ) → getD room x 0 ≡ 0)

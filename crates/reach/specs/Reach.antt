@@ -6,7 +6,7 @@ use Prim.Native.Nat.{ℕ, _+_, _≤_, _<_}
 use lib.ListN.{length, getD}
 use Rattle.game.specs.Book.{Book, Listed, bookOf}
 use Rattle.game.specs.Reason.{Reaches, InReason}
-use Rattle.label.specs.State.{zeros}
+use Rattle.begun.specs.State.{zeros}
 
 -- the place x has a tick in the room
 abbrev pub Ticked : List ℕ → ℕ → Type 0

@@ -1,10 +1,10 @@
 // Which objections are in the reason for a statement, in a register that is labelled: from each statement that the reason comes
 // to it goes on to the objectors. Each statement is looked at once, and with it the objections against it, so the time is linear
-// in statements and objections. Labels are left to `label`, what is written of a reason to the crates above.
+// in statements and objections. Labels are left to `label`, kinds to `belongs`, what is written of a reason to the crates above.
+use belongs::belongs;
 use chain::chain;
 use chain::place;
 use chain::wide;
-use game::Kind;
 ghost use mathlib.Core.Path.{_≡_};
 ghost use Prim.Native.Nat.{ℕ, _≤_, _<_};
 ghost use lib.ListN.{length, getD};
@@ -14,28 +14,6 @@ ghost use Rattle.game.specs.Reason.{Belongs, InReason};
 ghost use Rattle.chain.specs.Chained.{Chains};
 ghost use Rattle.label.specs.Labelled.{Settled};
 ghost use Rattle.reach.specs.Reach.{Ticked, Chosen, Reached, Queued, Grown};
-
-// Whether the objection k belongs to the reasons that come to its target.
-fn belongs(
-    marks: &[u8],
-    objectors: &[u32],
-    targets: &[u32],
-    labels: &[u8],
-    lengths: &[u16],
-    k: usize,
-) -> bool
-    requires { ⌜ Settled (now marks) (now objectors) (now targets) (now labels) (now lengths) × (k < length (now objectors)) ⌝ }
-    ensures { λ r. ⌜ Decides (Belongs (bookOf (now (marks .entry)) (now (objectors .entry)) (now (targets .entry)))
-        (getD (now (objectors .entry)) k 0) (getD (now (targets .entry)) k 0)) r ⌝ }
-{
-    let kind = label::kind_at(marks, objectors, targets, labels, lengths, k);
-    match kind {
-        Kind::Idle => false,
-        Kind::Felling(_) => true,
-        Kind::Delaying(_) => true,
-        Kind::Standoff => true,
-    }
-}
 
 // Comes to the statement y: it gets a tick and is queued behind the others, unless it has its tick.
 fn come_to(y: usize, room: &mut [u8], queue: &mut [u16], tail: usize) -> usize

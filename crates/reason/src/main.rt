@@ -2,6 +2,7 @@
 // argument, or the one line of a refusal. What is printed is settled by `output`, hence by the library; the rest only moves
 // bytes.
 use libc::STDERR_FILENO;
+use libc::STDOUT_FILENO;
 use line::NumberRead;
 use stream::Input;
 ghost use Prim.Native.Nat.{_≤_, _<_};
@@ -55,7 +56,7 @@ fn output(text: &[u8], argument: &[u8], room: &mut [u8]) -> usize
 fn print_reason(text: &[u8], argument: &[u8]) {
     let mut room = [0u8; 131072];
     let n = output(text, argument, &mut room);
-    if !stream::print_pieces(&room, n) {
+    if !stream::write_pieces(STDOUT_FILENO, &room, n) {
         os::fail(b"reason: standard output");
     }
 }

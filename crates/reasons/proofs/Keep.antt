@@ -7,10 +7,11 @@ use native.Mathlib.Omega.{arith}
 use lib.ListN.{length, getD, length-append}
 use Rattle.game.specs.declared.Kind.{Kind}
 use Rattle.line.specs.declared.ObjectionLine.{ObjectionLine}
+use Rattle.writing.specs.Rows.{rowsTo}
 use Rattle.rows.specs.Rows.{objectionRow}
 use Rattle.listing.specs.Listing.{objectionRows}
-use Rattle.listing.specs.Parts.{rowsTo}
-use Rattle.listing.proofs.Parts.{no-rows, row-first, upTo}
+use Rattle.writing.proofs.Rows.{no-rows, row-first}
+use Rattle.listing.proofs.Parts.{upTo}
 use Rattle.alone.specs.Alone.{keep}
 
 -- fewer rows are no longer

@@ -19,12 +19,14 @@ use Rattle.alone.specs.Alone.{keep}
 use Rattle.alone.proofs.Keep.{keep-same, tests-same}
 use Rattle.answer.proofs.Promises.{through}
 use Rattle.solved.specs.Solved.{Ready}
+use Rattle.writing.specs.Rows.{rowsTo}
 use Rattle.rows.specs.Rows.{statementRow}
 use Rattle.listing.specs.Listing.{objectionRows}
-use Rattle.listing.specs.Parts.{rowsTo, verdictAt, statementAt, kindAt}
+use Rattle.listing.specs.Parts.{verdictAt, statementAt, kindAt}
+use Rattle.writing.proofs.Rows.{rows-same}
 use Rattle.rows.proofs.Rows.{statement-small}
 use Rattle.listing.proofs.Listing.{rows-bounded, text-length}
-use Rattle.listing.proofs.Parts.{rows-same, upTo, length-upTo, getD-upTo}
+use Rattle.listing.proofs.Parts.{upTo, length-upTo, getD-upTo}
 use Rattle.listing.proofs.Told.{own-means, own-kind, own-row}
 use Rattle.reasons.specs.Reasons.{IsReason}
 use Rattle.reasons.specs.Rows.{hasTick, chosenAt, chosenPart, reasonRows}

@@ -10,10 +10,11 @@ use lib.Dec.{T}
 use lib.ListN.{length, getD, drop, length-append}
 use borrow.Author.Tests.{eq-eqb, ne-eqb}
 use Rattle.writing.specs.Writing.{Put}
-use Rattle.listing.specs.Parts.{rowsTo, verdictAt, statementAt, objectionAt, kindAt}
+use Rattle.writing.specs.Rows.{rowsTo}
+use Rattle.listing.specs.Parts.{verdictAt, statementAt, objectionAt, kindAt}
 use Rattle.writing.proofs.Writing.{put-more, put-start}
+use Rattle.writing.proofs.Rows.{rows-small}
 use Rattle.rows.proofs.Rows.{statement-small, objection-small}
-use Rattle.listing.proofs.Parts.{rows-small}
 use Rattle.reasons.specs.Rows.{hasTick, chosenAt, chosenPart}
 
 module _ (nums objectors targets labels lengths inside : List ℕ) where
@@ -28,7 +29,7 @@ module _ (nums objectors targets labels lengths inside : List ℕ) where
 
   pub chosen-small : (m : ℕ) → length (rowsTo m row) ≤ 64 * m
   chosen-small =
-      rows-small row (λ k. go _ (hasTick inside k) (objection-small (getD nums (getD objectors k 0) 0)
+      rows-small row 64 (λ k. go _ (hasTick inside k) (objection-small (getD nums (getD objectors k 0) 0)
       (getD nums (getD targets k 0) 0) (kindAt objectors targets labels lengths k)))
     where
       go : (l : List ℕ) (b : Bool) → length l ≤ 64 → length (cond b l []) ≤ 64

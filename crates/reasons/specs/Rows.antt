@@ -5,7 +5,8 @@ use mathlib.Core.List.{List, [], _++_}
 use Prim.Native.Nat.{ℕ, _<_}
 use lib.Dec.{eqb}
 use lib.ListN.{length, getD}
-use Rattle.listing.specs.Parts.{rowsTo, statementAt, objectionAt}
+use Rattle.writing.specs.Rows.{rowsTo}
+use Rattle.listing.specs.Parts.{statementAt, objectionAt}
 use Rattle.answer.specs.Answer.{Promised, Written, Short}
 use Rattle.answer.specs.declared.Answer.{Answer}
 

@@ -12,8 +12,8 @@ use lib.Seq.{getD-set-same, getD-set-other}
 use borrow.Author.Tests.{eq-eqb, ne-eqb}
 use Rattle.game.specs.Book.{all}
 use Rattle.game.proofs.Search.{all-at}
-use Rattle.sheet.specs.Sheet.{codeAt, CodeSet}
-use Rattle.sheet.specs.Parts.{inByte, put}
+use Rattle.sheet.specs.Sheet.{inByte, codeAt, CodeSet}
+use Rattle.sheet.specs.Parts.{put}
 
 test : ℕ → ℕ → ℕ → ℕ → Bool
 test b p l q = eqb (inByte (put b p l) q) (cond (eqb q p) l (inByte b q))

@@ -1,17 +1,13 @@
 -- What the inner functions promise, not for callers: codes by the numbers of labels, and a sheet that has them.
 use mathlib.Core.List.{List}
 use mathlib.Core.Path.{_≡_}
-use Prim.Native.Nat.{ℕ, _-_, _*_, _/_, _%_, _^_, _≤_, _<_}
+use Prim.Native.Nat.{ℕ, _-_, _*_, _%_, _^_, _≤_, _<_}
 use lib.Bits.{bitAnd, bitOr}
 use lib.ListN.{length, getD}
 use Rattle.game.specs.Book.{Book}
 use Rattle.game.specs.Label.{Verdict, Means, labelNumber}
 use Rattle.answer.specs.Answer.{Begins}
 use Rattle.sheet.specs.Sheet.{codeAt, bytesFor, codes, total}
-
--- the code in place p of a byte
-abbrev pub inByte : ℕ → ℕ → ℕ
-inByte b p = b / 4 ^ p % 4
 
 -- the byte b with the code c in place p, made by shift and mask
 abbrev pub put : ℕ → ℕ → ℕ → ℕ

@@ -8,9 +8,13 @@ use lib.ListN.{length, getD}
 use Rattle.game.specs.Book.{Book, Listed, count}
 use Rattle.game.specs.Label.{Verdict, Means, labelNumber}
 
--- "Two bits for each statement in listed order, four to a byte, the first in the lowest bits": the code of the statement x.
+-- "Two bits for each statement in listed order, four to a byte, the first in the lowest bits": the code at a place of a byte, and
+-- the code of the statement x.
+abbrev pub inByte : (byte place : ℕ) → ℕ
+inByte b p = b / 4 ^ p % 4
+
 unfoldable pub codeAt : (sheet : List ℕ) → ℕ → ℕ
-codeAt sheet x = getD sheet (x / 4) 0 / 4 ^ (x % 4) % 4
+codeAt sheet x = inByte (getD sheet (x / 4) 0) (x % 4)
 
 -- the bytes of a sheet of n statements
 abbrev pub bytesFor : ℕ → ℕ

@@ -19,7 +19,8 @@ use Rattle.answer.proofs.Promises.{short-once, number-clash}
 use Rattle.sheet.specs.Sheet.{codes, total}
 use Rattle.sheet.proofs.Sheets.{sheet-once}
 use Rattle.solved.proofs.Laws.{text-unique, text-exactly}
-use Rattle.sheets.specs.Sheets.{SheetIn, SheetShort, OldSheet, UpdateRefused, UpdatedIn, TextSheet, TextSheetUpdate}
+use Rattle.sheet_rooms.specs.Rooms.{SheetIn, SheetShort, OldSheet, UpdateRefused, UpdatedIn}
+use Rattle.sheets.specs.Sheets.{TextSheet, TextSheetUpdate}
 
 module _ (B : Book) (rooms : List ℕ × List ℕ) where
   -- rooms that begin with the book's sheet and totals are one

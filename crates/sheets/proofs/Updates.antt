@@ -16,8 +16,9 @@ use Rattle.answer.specs.declared.Answer.the-variants.{Given}
 use Rattle.sheet.specs.Sheet.{codeAt, codes, total, IsSheet}
 use Rattle.sheet.proofs.Bytes.{byte-by-codes}
 use Rattle.sheet.proofs.Sheets.{sheet-once, sheet-sound}
-use Rattle.sheets.specs.Sheets.{SheetIn, OldSheet, UpdatedIn, TextSheet, TextSheetUpdate}
-use Rattle.sheets.proofs.Solving.{whole-room}
+use Rattle.sheet_rooms.specs.Rooms.{SheetIn, OldSheet, UpdatedIn}
+use Rattle.sheet_rooms.proofs.Given.{whole-room}
+use Rattle.sheets.specs.Sheets.{TextSheet, TextSheetUpdate}
 use Rattle.sheets.proofs.Unique.{sheet-in-once}
 
 module _ (B : Book) (rooms : List ℕ × List ℕ) (n : ℕ) (after : List ℕ × List ℕ) where

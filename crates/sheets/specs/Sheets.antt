@@ -1,46 +1,16 @@
--- The promises of the calls that keep a label sheet beside a register text: a fresh sheet, and an old one that is updated. What a
--- sheet is, `sheet` says; the labels on it are those of the book of the register that the text is the written form of.
+-- The promises of the calls that keep a label sheet beside a register text: a fresh sheet, and an old one that is updated. What
+-- the rooms then hold, `sheet_rooms` says; the labels are those of the book of the register that the text is the written form of.
 use mathlib.Core.List.{List}
-use mathlib.Core.Logic.{_⊎_}
-use mathlib.Core.Path.{_≡_}
-use Prim.Native.Nat.{ℕ, _≤_, _<_}
-use lib.ListN.{length}
-use Rattle.game.specs.Book.{Book}
+use Prim.Native.Nat.{ℕ, _≤_}
 use Rattle.text.specs.Register.{Register, book}
 use Rattle.text.specs.Reads.{Accepts, Refuses}
 use Rattle.text.specs.declared.Reading.{Reading}
 use Rattle.text.specs.declared.Reading.the-variants.{Whole, Refused}
-use Rattle.refusal.specs.declared.Refusal.{Refusal}
-use Rattle.refusal.specs.declared.Refusal.the-variants.{Sheet}
-use Rattle.answer.specs.Answer.{Promised, Begins, Written, Short}
+use Rattle.answer.specs.Answer.{Promised, Short}
 use Rattle.answer.specs.declared.Answer.{Answer}
-use Rattle.sheet.specs.Sheet.{bytesFor, codes, total, IsSheet, SoundSheet}
 use Rattle.sheet.specs.Parts.{LabelsOf}
 use Rattle.solved.specs.Solved.{TextRefuses}
-
--- Two rooms are lent, for the sheet and for the totals. They begin with the book's sheet, n bytes, and with its totals in the
--- order of the codes; beyond that they are as found.
-abbrev pub SheetIn : Book → List ℕ × List ℕ → ℕ → List ℕ × List ℕ → Type 0
-SheetIn B rooms n after =
-    (sheet : List ℕ) × IsSheet B sheet × Written sheet (rooms .0) n (after .0)
-    × Begins codes (λ c e. e ≡ total sheet (B .size) c) (rooms .1) (after .1)
-
--- either room is shorter than that
-abbrev pub SheetShort : Book → List ℕ × List ℕ → Type 0
-SheetShort B rooms = (length (rooms .0) < bytesFor (B .size)) ⊎ (length (rooms .1) < codes)
-
--- the rooms hold an old sheet of as many statements, and its totals
-abbrev pub OldSheet : Book → List ℕ × List ℕ → Type 0
-OldSheet B rooms = SoundSheet (B .size) (rooms .0) (rooms .1)
-
--- What an update refuses: "16 with place 0 for an old sheet with a 3, a size that isn't the register's, a set spare bit or wrong
--- totals, then 10".
-abbrev pub UpdateRefused : Book → List ℕ × List ℕ → Refusal → Type 0
-UpdateRefused B rooms r = ((¬ OldSheet B rooms) × (r ≡ Sheet)) ⊎ (OldSheet B rooms × Short (length (rooms .1) < codes) r)
-
--- what an update leaves
-abbrev pub UpdatedIn : Book → List ℕ × List ℕ → ℕ → List ℕ × List ℕ → Type 0
-UpdatedIn B rooms n after = OldSheet B rooms × SheetIn B rooms n after
+use Rattle.sheet_rooms.specs.Rooms.{SheetIn, SheetShort, UpdateRefused, UpdatedIn}
 
 -- a fresh sheet
 abbrev pub TextSheet : (text : List ℕ) → List ℕ × List ℕ → Answer → List ℕ × List ℕ → Type 0
@@ -58,10 +28,3 @@ TextSheetUpdate text rooms a after =
 abbrev pub LabelledText : (text labels : List ℕ) → Reading → Type 0
 LabelledText text labels (Whole n m) = (R : Register) × Accepts text R × LabelsOf (book R) n labels × (n ≤ 1024)
 LabelledText text labels (Refused r) = Refuses text r
-
--- Not for callers: the promises of one book.
-abbrev pub SheetWritten : Book → List ℕ × List ℕ → Answer → List ℕ × List ℕ → Type 0
-SheetWritten B rooms a after = Promised (Short (SheetShort B rooms)) (SheetIn B rooms) rooms a after
-
-abbrev pub SheetUpdated : Book → List ℕ × List ℕ → Answer → List ℕ × List ℕ → Type 0
-SheetUpdated B rooms a after = Promised (UpdateRefused B rooms) (UpdatedIn B rooms) rooms a after

@@ -1,46 +1,12 @@
 // The public calls that keep a label sheet beside a register text: a fresh sheet, and an old one that is updated in place.
-// Reading and labels are left to `solved`, and what is on a sheet to `sheet`.
+// Reading and labels are left to `solved`, and the rooms that are lent to `sheet_rooms`.
 use answer::Answer;
-use refusal::Refusal;
+use sheet_rooms::fresh_rooms;
+use sheet_rooms::update_rooms;
 use text::Reading;
 ghost use Prim.Native.Nat.{_≤_};
 ghost use lib.ListN.{length};
-ghost use Rattle.game.specs.Book.{Book};
-ghost use Rattle.sheet.specs.Parts.{LabelsOf};
-ghost use Rattle.sheets.specs.Sheets.{TextSheet, TextSheetUpdate, SheetWritten, SheetUpdated, LabelledText};
-
-// Writes the sheet of n statements and its totals, if there is room for both.
-fn fresh_rooms(labels: &[u8], n: usize, sheet: &mut [u8], totals: &mut [u32]) -> Answer
-    requires { ⌜ (n ≤ 1024) × (n ≤ length (now labels)) × ((B : Book) × LabelsOf B n (now labels)) ⌝ }
-    ensures { λ a. ⌜ ((B : Book) → LabelsOf B n (now (labels .entry)) → SheetWritten B (now (sheet .entry), now (totals .entry)) a
-        (now (sheet .exit), now (totals .exit))) ⌝ }
-{
-    let size = (n + 3) / 4;
-    if sheet.len() < size {
-        return Answer::Refused(Refusal::Room);
-    }
-    if totals.len() < 3 {
-        return Answer::Refused(Refusal::Room);
-    }
-    sheet::fresh(labels, n, &mut sheet[..size], totals);
-    Answer::Given(size as u32)
-}
-
-// Updates the sheet of n statements and its totals, if that is what the rooms hold.
-fn update_rooms(labels: &[u8], n: usize, sheet: &mut [u8], totals: &mut [u32]) -> Answer
-    requires { ⌜ (n ≤ 1024) × (n ≤ length (now labels)) × ((B : Book) × LabelsOf B n (now labels)) ⌝ }
-    ensures { λ a. ⌜ ((B : Book) → LabelsOf B n (now (labels .entry)) → SheetUpdated B (now (sheet .entry), now (totals .entry)) a
-        (now (sheet .exit), now (totals .exit))) ⌝ }
-{
-    if !sheet::is_sound(sheet, totals, n) {
-        return Answer::Refused(Refusal::Sheet);
-    }
-    if totals.len() < 3 {
-        return Answer::Refused(Refusal::Room);
-    }
-    sheet::update(labels, n, sheet, totals);
-    Answer::Given(sheet.len() as u32)
-}
+ghost use Rattle.sheets.specs.Sheets.{TextSheet, TextSheetUpdate, LabelledText};
 
 // Reads a text and labels its statements, and keeps nothing of it but the labels.
 fn label_text(text: &[u8], labels: &mut [u8]) -> Reading

@@ -15,7 +15,7 @@ use Rattle.answer.specs.declared.Answer.the-variants.{Refused, Given}
 use Rattle.stream.specs.Put.{PutOf}
 
 -- what a room begins with
-begins : (l room : List ℕ) (n : ℕ) (after : List ℕ) → Written l room n after → (n ≤ length after) × (take n after ≡ l)
+pub begins : (l room : List ℕ) (n : ℕ) (after : List ℕ) → Written l room n after → (n ≤ length after) × (take n after ≡ l)
 begins l room n after (c, h, e) = (
   omega (arith, c, ap length e, length-append l (drop (length l) room)),
   ap (λ k. take k after) c ∙ ap (take (length l)) e

@@ -1,8 +1,8 @@
 // What the programs have in common: standard input is read whole into a room, an answer is put as what is printed of it, and
-// a room's first bytes are printed in pieces. What is asked and answered is each program's own.
+// a room's first bytes are written in pieces. What is asked and answered is each program's own.
 use answer::Answer;
 use libc::STDIN_FILENO;
-use libc::STDOUT_FILENO;
+ghost use mathlib.Core.Path.{_≡_};
 ghost use Prim.Native.Nat.{_<_, _-_, _≤_};
 ghost use lib.ListN.{length};
 ghost use Rattle.stream.specs.Input.{Within};
@@ -59,6 +59,13 @@ pub fn put_answer(answer: Answer, room: &mut [u8]) -> usize
     }
 }
 
+// 1,048,576 zeros, room for the report of any text: at most 65,535 lines, and at most 16 bytes for each.
+pub fn report_room() -> [u8; 1048576]
+    ensures { λ r. ⌜ 1048576 ≡ length r ⌝ }
+{
+    [0; 1048576]
+}
+
 // Where the piece that starts at a place ends.
 fn piece_end(room: &[u8], n: usize, start: usize) -> usize
     requires { ⌜ (start < n) × (n ≤ length (now room)) ⌝ }
@@ -67,14 +74,14 @@ fn piece_end(room: &[u8], n: usize, start: usize) -> usize
     if n - start <= 65536 { n } else { start + 65536 }
 }
 
-// Prints the first n bytes of the room, piece by piece. Answers whether all were taken.
-pub fn print_pieces(room: &[u8], n: usize) -> bool
+// Writes the first n bytes of the room to an open file, piece by piece. Answers whether all were taken.
+pub fn write_pieces(fd: i32, room: &[u8], n: usize) -> bool
     requires { ⌜ n ≤ length (now room) ⌝ }
 {
     let mut start: usize = 0;
     while start < n {
         let end = piece_end(room, n, start);
-        if !io::write_all(STDOUT_FILENO, &room[start..end]) {
+        if !io::write_all(fd, &room[start..end]) {
             return false;
         }
         start = end;

@@ -22,7 +22,7 @@ use Rattle.text.proofs.Steps.{bare, with-statement, with-objection, no-
 use Rattle.text.specs.Reads.{Accepts, NotEnded, Reached, Refuses}
 
 -- it holds, or it does not
-abbrev Settles : Type 0 → Type 0
+abbrev pub Settles : Type 0 → Type 0
 Settles P = P ⊎ (¬ P)
 
 both? : {P Q : Type 0} → Settles P → Settles Q → Settles (P × Q)
@@ -37,7 +37,7 @@ less? a b = go (decLt a b)
     go (yes p) = inl p
     go (no p) = inr p
 
-same? : (a b : ℕ) → Settles (a ≡ b)
+pub same? : (a b : ℕ) → Settles (a ≡ b)
 same? a b = go (ℕ-discrete a b)
   where
     go : Dec (a ≡ b) → Settles (a ≡ b)
@@ -45,7 +45,7 @@ same? a b = go (ℕ-discrete a b)
     go (no p) = inr p
 
 -- some number below n has the property, or none has
-below? : (n : ℕ) (P : ℕ → Type 0) → ((i : ℕ) → Settles (P i)) → Settles ((i : ℕ) × (i < n) × P i)
+pub below? : (n : ℕ) (P : ℕ → Type 0) → ((i : ℕ) → Settles (P i)) → Settles ((i : ℕ) × (i < n) × P i)
 below? zero P d = inr (λ w. omega (arith, w .1))
 below? (suc n) P d = go (d n) (below? n P d)
   where
@@ -100,7 +100,7 @@ module _ (s : List ℕ) where
       below? 100000000 (λ y. (x : ℕ) × (x < 100000000) × ObjectionThere y x)
       (λ y. below? 100000000 (ObjectionThere y) (λ x. stands? (Objection (record { objector = y; target = x })) s))
 
-  line? : ((l : Line) × BeginsWith l s) ⊎ ((l : Line) → ¬ BeginsWith l s)
+  pub line? : ((l : Line) × BeginsWith l s) ⊎ ((l : Line) → ¬ BeginsWith l s)
   unfolding StatementThere ObjectionThere
   line? = go (statement? Read) (statement? Unread) objection?
     where
@@ -121,10 +121,10 @@ module _ (s : List ℕ) where
           none (Statement st) b = no-statement (st .mark) (st .number) b
           none (Objection o) b = r (o .objector, b .0 .0 .1, (o .target, b .0 .1 .1, b))
 
-issued? : (R : Register) (n : ℕ) → Settles (OnRegister R n)
+pub issued? : (R : Register) (n : ℕ) → Settles (OnRegister R n)
 issued? R n = below? (length (numbers R)) (λ i. getD (numbers R) i 0 ≡ n) (λ i. same? (getD (numbers R) i 0) n)
 
-has? : (R : Register) (y x : ℕ) → Settles (Has R y x)
+pub has? : (R : Register) (y x : ℕ) → Settles (Has R y x)
 has? R y x =
     go (below? (length (R .objections)) (λ k. (getD (objectorNumbers R) k 0 ≡ y) × (getD (targetNumbers R) k 0 ≡ x))
     (λ k. both? (same? (getD (objectorNumbers R) k 0) y) (same? (getD (targetNumbers R) k 0) x)))

@@ -59,7 +59,7 @@ pub take-more : (room : List ℕ) (n v : ℕ) → n < length room → take (n + 
 take-more room n v h = rw add-one (take-suc-set room n v h)
 
 -- What is written.
-bytes-append : (ls ms : List Line) → bytes (ls ++ ms) ≡ bytes ls ++ bytes ms
+pub bytes-append : (ls ms : List Line) → bytes (ls ++ ms) ≡ bytes ls ++ bytes ms
 unfolding bytes
 bytes-append [] ms = refl
 bytes-append (l ∷ ls) ms =
@@ -224,18 +224,17 @@ module _ (R : Register) (o : ObjectionLine) where
   count-x = length-map (R .objections) (λ (p : ObjectionLine). p .target)
 
   -- the entry k is an old one, or the last
-  Old : ℕ → Type 0
+  abbrev pub Old : ℕ → Type 0
   Old k =
       (k < length (R .objections)) × (getD (objectorNumbers (with-objection R o)) k 0 ≡ getD (objectorNumbers R) k 0)
       × (getD (targetNumbers (with-objection R o)) k 0 ≡ getD (targetNumbers R) k 0)
 
-  New : ℕ → Type 0
+  abbrev pub New : ℕ → Type 0
   New k =
       (k ≡ length (R .objections)) × (getD (objectorNumbers (with-objection R o)) k 0 ≡ o .objector)
       × (getD (targetNumbers (with-objection R o)) k 0 ≡ o .target)
 
-  old-or-new : (k : ℕ) → k < length (R .objections ++ (o ∷ [])) → Old k ⊎ New k
-  unfolding Old New
+  pub old-or-new : (k : ℕ) → k < length (R .objections ++ (o ∷ [])) → Old k ⊎ New k
   old-or-new k h = go (decLt k (length (R .objections)))
     where
       at-end : (l : List ℕ) (v : ℕ) → length l ≡ length (R .objections) → k ≡ length (R .objections)
@@ -259,7 +258,6 @@ module _ (R : Register) (o : ObjectionLine) where
 
   pub valid-objection : Valid R → length (R .objections) < 4096 → Issued R (o .objector) → Issued R (o .target)
       → ¬ Has R (o .objector) (o .target) → Valid (with-objection R o)
-  unfolding Old New
   valid-objection v l y x new = record {
     few-statements = v .few-statements;
     few-objections = omega (arith, length-append (R .objections) (o ∷ []));

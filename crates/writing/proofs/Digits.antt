@@ -52,7 +52,7 @@ pub ten-digits : (n : ℕ) → length (decimal n) ≤ 10
 unfolding decimal
 ten-digits n = within 10 n
 
--- a number below 10,000 has at most 4
+-- a number below 10,000 has at most 4, and one below 100,000 at most 5
 shorter : (k n : ℕ) → n < 10 ^ 10 → (n / 10 < 10 ^ 10 → length (decimal (n / 10)) ≤ k) → length (decimal n) ≤ suc k
 shorter k n h i = go (decLt n 10)
   where
@@ -64,3 +64,6 @@ pub four-digits : (n : ℕ) → n < 10000 → length (decimal n) ≤ 4
 four-digits n h =
     shorter 3 n (omega arith) (λ a. shorter 2 (n / 10) a (λ b. shorter 1 (n / 10 / 10) b
     (λ c. omega (arith, one-digit (n / 10 / 10 / 10) (omega arith)))))
+
+pub five-digits : (n : ℕ) → n < 100000 → length (decimal n) ≤ 5
+five-digits n h = shorter 4 n (omega arith) (λ a. four-digits (n / 10) (omega arith))

@@ -1,6 +1,7 @@
 //! What is handed to the library: small registers in full, random ones of many shapes, the examples
 //! of document 01 and of the folder examples, as lists and as texts; damaged texts; what fuzzing
-//! has kept; registers that are edited, and sheets to be updated; and rooms of many lengths.
+//! has kept; registers that are edited, and sheets to be updated; texts to be mended; and rooms of
+//! many lengths.
 
 pub mod corpus;
 pub mod crafted;
@@ -11,6 +12,7 @@ pub mod examples;
 pub mod files;
 pub mod handed;
 pub mod lists;
+pub mod mends;
 pub mod numbers;
 pub mod page;
 pub mod reasons;
@@ -21,4 +23,5 @@ pub mod sheets;
 pub mod small;
 pub mod spoiled;
 pub mod text;
+pub mod worn;
 pub mod written;

@@ -7,6 +7,7 @@ use crate::inputs::rooms;
 use crate::inputs::sheet::Sheet;
 use crate::inputs::sheets;
 use crate::inputs::text::Text;
+use crate::second::answer::bytes_of;
 use crate::second::exercise::MOST_TURNS;
 use crate::second::expected::{Asked, Expected, Question};
 use crate::second::verdict::NO_LENGTH;
@@ -43,18 +44,23 @@ pub const LIST_CALLS: [ListCall; 5] = [
 ];
 
 pub const TEXT_CALLS: [TextCall; 4] = [
-    text_call("text_labels", 20, Question::Labels),
+    LABELS,
     text_call("text_lengths", 21, Question::Lengths),
     LISTING,
     SHEET,
 ];
 
+pub const LABELS: TextCall = text_call("text_labels", 20, Question::Labels);
 pub const LISTING: TextCall = text_call("listing", 22, Question::Listing);
 pub const SHEET: TextCall = text_call("sheet", 26, Question::Sheet);
 
 /// The number by which caller.c knows the update of a sheet. It is no question: its rooms hold the
 /// old sheet before the call.
 pub const SHEET_UPDATE: u32 = 27;
+
+/// The number by which caller.c knows mending. It is no question either: a text that is no register
+/// is answered too.
+pub const MEND: u32 = 28;
 
 const fn list_call(name: &'static str, number: u32, form: Form, question: Question) -> ListCall {
     ListCall {
@@ -95,10 +101,18 @@ pub fn rooms_with(old: &Sheet) -> Vec<Array> {
         .collect()
 }
 
+/// The rooms of a mending: for the text, for the report, and for the number of the report's bytes.
+pub fn rooms_for_mending(text: Room, report: Room) -> Vec<Array> {
+    vec![
+        Array::room(1, text),
+        Array::room(1, report),
+        Array::room(4, Room::Of(1)),
+    ]
+}
+
 /// The text as it is handed over.
 pub fn text_input(text: &Text) -> Vec<Array> {
-    let bytes = text.0.iter().map(|byte| u32::from(*byte)).collect();
-    vec![Array::input(1, bytes)]
+    vec![Array::input(1, bytes_of(&text.0))]
 }
 
 /// What is asked of one statement where any will do: the line and the exercise of the one with the

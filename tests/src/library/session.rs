@@ -2,8 +2,8 @@
 //! numbers of the answer, every entry of every room, the guards, and that no input has changed.
 
 use super::array::{Array, Room};
-use super::call::{any_sheet, of_longest, room_widths, rooms_with, text_input};
-use super::call::{ListCall, TextCall, LIST_CALLS, SHEET_UPDATE};
+use super::call::{any_sheet, of_longest, room_widths, rooms_for_mending, rooms_with, text_input};
+use super::call::{ListCall, TextCall, LIST_CALLS, MEND, SHEET_UPDATE};
 use super::caller::{Caller, Request};
 use crate::inputs::handed::Handed;
 use crate::inputs::lists::Lists;
@@ -12,6 +12,7 @@ use crate::inputs::sheet::Sheet;
 use crate::inputs::text::Text;
 use crate::second::answer::Answer;
 use crate::second::expected::{Asked, Expected, Question};
+use crate::second::mend::Mending;
 
 pub struct Session {
     caller: Caller,
@@ -54,7 +55,8 @@ impl Session {
             let rooms = call.fitting(text, &expected);
             self.hold_text_call(&call, text, &expected, &rooms)?;
         }
-        self.hold_update(text, &expected, &any_sheet(text, &expected))
+        self.hold_update(text, &expected, &any_sheet(text, &expected))?;
+        self.hold_mended(text)
     }
 
     /// Holds the line of argument of one statement with this room.
@@ -105,6 +107,29 @@ impl Session {
         let answer = expected.updated(old);
         self.compare(request, text_input(text), rooms_with(old), &answer)
             .map_err(|what| format!("sheet_update, {text}; {old}: {what}"))
+    }
+
+    /// Holds the mending of a text, with rooms of just the answer's lengths.
+    pub fn hold_mended(&mut self, text: &Text) -> Result<(), String> {
+        let mending = Mending::of(text);
+        self.hold_mending(text, &mending, mending.answer_lengths().map(Room::Of))
+    }
+
+    /// Holds the mending of a text with these rooms.
+    pub fn hold_mending(
+        &mut self,
+        text: &Text,
+        mending: &Mending,
+        rooms: [Room; 2],
+    ) -> Result<(), String> {
+        let request = Request {
+            call: MEND,
+            asked: (0, 0),
+        };
+        let answer = mending.answer(&rooms::lengths(&rooms));
+        let lent = rooms_for_mending(rooms[0], rooms[1]);
+        self.compare(request, text_input(text), lent, &answer)
+            .map_err(|what| format!("mend, {text}; rooms {rooms:?}: {what}"))
     }
 
     fn hold_asked(

@@ -9,6 +9,17 @@ pub struct Answer {
     pub rooms: Vec<Vec<u32>>,
 }
 
+/// Bytes as a room has them.
+pub fn bytes_of(bytes: &[u8]) -> Vec<u32> {
+    bytes.iter().copied().map(u32::from).collect()
+}
+
+/// Whether any of the rooms, which have these lengths, is shorter than what it is to get.
+pub fn is_short(rooms: &[Vec<u32>], lengths: &[usize]) -> bool {
+    let mut rooms = rooms.iter().zip(lengths);
+    rooms.any(|(room, length)| *length < room.len())
+}
+
 impl Answer {
     /// The first of these refusals, or this value and these entries where there is none.
     pub fn first_of(refusals: &[Option<Refusal>], value: u32, rooms: Vec<Vec<u32>>) -> Self {

@@ -1,7 +1,7 @@
 //! What each call ought to answer to one input: worked out once, then asked for every question and
 //! every length of the rooms.
 
-use super::answer::Answer;
+use super::answer::{bytes_of, is_short, Answer};
 use super::exercise::MOST_TURNS;
 use super::refusals::{self, Refusal};
 use super::refusals::{SHORT_ROOM, TOO_MANY_TURNS, UNKNOWN_STATEMENT, UNSOUND_SHEET};
@@ -112,13 +112,11 @@ impl Expected {
     pub fn answer(&self, question: Question, room_lengths: &[usize]) -> Answer {
         let rooms = self.entries(question);
         let (_, turns) = question.numbers();
-        let short = |(room, length): (&Vec<u32>, &usize)| *length < room.len();
-        let is_short = rooms.iter().zip(room_lengths).any(short);
         let rows = [
             self.refusal,
             self.is_unknown(question).then_some(UNKNOWN_STATEMENT),
             (turns > MOST_TURNS).then_some(TOO_MANY_TURNS),
-            is_short.then_some(SHORT_ROOM),
+            is_short(&rooms, room_lengths).then_some(SHORT_ROOM),
         ];
         Answer::first_of(&rows, self.value(question, &rooms), rooms)
     }
@@ -150,9 +148,9 @@ impl Expected {
                 let (kinds, lengths) = self.kinds.iter().copied().unzip();
                 vec![kinds, lengths]
             }
-            Question::Listing => vec![bytes_of(&listing::listing(self))],
+            Question::Listing => vec![bytes_of(listing::listing(self).as_bytes())],
             Question::Sheet => self.sheet().rooms(),
-            Question::Reason { statement } => vec![bytes_of(&self.reason(statement))],
+            Question::Reason { statement } => vec![bytes_of(self.reason(statement).as_bytes())],
             Question::Of(Asked::Line { statement }) => vec![self.line(statement)],
             Question::Of(Asked::Exercise { .. }) => Vec::new(),
         }
@@ -215,9 +213,4 @@ impl Expected {
         let of_place = |place: usize| exercise::within(self.verdicts[place], turns);
         self.place(statement).map_or(0, of_place)
     }
-}
-
-/// The bytes of what is printed, as a room has them.
-fn bytes_of(printed: &str) -> Vec<u32> {
-    printed.bytes().map(u32::from).collect()
 }

@@ -2,6 +2,7 @@
 //! the reason for a statement, which has some of the same rows, or the one line of a refusal.
 
 use super::expected::{Expected, Question};
+use super::refusals::Refusal;
 use super::verdict::NO_LENGTH;
 
 const LABELS: [&str; 3] = ["open", "stands", "falls"];
@@ -12,8 +13,16 @@ pub fn print(expected: &Expected, question: Question) -> Vec<u8> {
     let answer = expected.answer(question, &[usize::MAX]);
     match answer.refusal {
         0 => answer.rooms[0].iter().map(|byte| *byte as u8).collect(),
-        number => format!("REFUSED\t{number}\t{}\n", answer.value).into_bytes(),
+        number => refused(Refusal {
+            number,
+            place: answer.value,
+        }),
     }
+}
+
+/// The one line that a program prints where it is refused.
+pub fn refused(Refusal { number, place }: Refusal) -> Vec<u8> {
+    format!("REFUSED\t{number}\t{place}\n").into_bytes()
 }
 
 /// The header, then the statements, then the objections.

@@ -8,6 +8,7 @@ pub mod expected;
 pub mod game;
 pub mod kinds;
 pub mod listing;
+pub mod mend;
 pub mod reason;
 pub mod refusals;
 pub mod register;

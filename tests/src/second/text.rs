@@ -15,7 +15,7 @@ pub fn lines(text: &[u8]) -> Vec<Option<Line>> {
 }
 
 /// A line without the byte that ends it.
-fn read(line: &[u8]) -> Option<Line> {
+pub fn read(line: &[u8]) -> Option<Line> {
     let fields: Vec<&[u8]> = line.split(|byte| *byte == b'\t').collect();
     let statement = |digits: &[u8], unread: bool| {
         number(digits).map(|number| Line::Statement { number, unread })

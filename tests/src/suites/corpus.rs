@@ -2,6 +2,7 @@
 //! C; here it is the second solver. A folder without some of the refusals is not what it should be.
 
 use super::asked::{hold_exercises, hold_lines, TURNS};
+use super::mending::hold_rooms;
 use super::reasons::hold_reasons;
 use super::Test;
 use crate::inputs::corpus::{files, kept, Words};
@@ -68,6 +69,7 @@ fn hold_text(session: &mut Session, bytes: Vec<u8>) -> Result<u32, String> {
             session.hold_text_call(call, &text, &expected, &rooms)?;
         }
     }
+    hold_rooms(session, &text)?;
     if let Some(refusal) = expected.refusal {
         return Ok(refusal.number);
     }

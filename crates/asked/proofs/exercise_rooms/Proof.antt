@@ -4,7 +4,7 @@ use native.Mathlib.Omega.{arith}
 use Rattle.label.proofs.Parts.{part-length}
 use Rattle.text.specs.Register.{Issued}
 use Rattle.answer.specs.Answer.{Asks}
-use Rattle.asked.specs.Asked.{ExerciseIn}
+use Rattle.asking.specs.Asking.{ExerciseIn}
 use Rattle.solved.proofs.Laws.{text-promised}
 use Rattle.solved.proofs.Rooms.{few, made}
 use Rattle.asked.proofs.exercise_rooms.Statement.{statement}

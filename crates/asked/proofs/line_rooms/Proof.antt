@@ -2,7 +2,7 @@
 use mathlib.Core.Path.{sym}
 use native.Mathlib.Omega.{arith}
 use Rattle.label.proofs.Parts.{part-length}
-use Rattle.asked.specs.Asked.{LineIn, LineRefused}
+use Rattle.asking.specs.Asking.{LineIn, LineRefused}
 use Rattle.solved.proofs.Laws.{text-promised}
 use Rattle.solved.proofs.Rooms.{few-listed, few-objections, rooms-ready}
 use borrow.Author.Needs.{needs}

@@ -3,7 +3,7 @@ use mathlib.Core.Path.{sym, _∙_}
 use native.Mathlib.Omega.{arith}
 use Rattle.chain.proofs.Links.{all-zero}
 use Rattle.exercise.proofs.Exercise.{answers-falls, answers-stands, answers-neither}
-use Rattle.exercise.proofs.Table.{fresh-both}
+use Rattle.within.proofs.Table.{fresh-both}
 use borrow.Author.Needs.{needs}
 use Rattle.exercise.proofs.answer.Statement.{statement}
 use Rattle.exercise.proofs.answer.Tie as tie

@@ -3,8 +3,8 @@ use mathlib.Core.Path.{_≡_, refl, _∙_}
 use Prim.Native.Nat.{_-_}
 use native.Mathlib.Omega.{arith}
 use lib.ListN.{length}
-use Rattle.label.specs.Queue.{Turn}
-use Rattle.label.proofs.Runs.{current-place, current-falls, finish}
+use Rattle.begun.specs.Queue.{Turn}
+use Rattle.begun.proofs.Runs.{current-place, current-falls, finish}
 use Rattle.label.proofs.Agreement.{labelled}
 use borrow.Author.Needs.{needs}
 use Rattle.label.proofs.run.Statement.{statement}

@@ -3,8 +3,10 @@ use mathlib.Core.Path.{_≡_, sym, ap}
 use Prim.Native.Nat.{_+_, _-_, _≤_}
 use native.Mathlib.Omega.{arith}
 use lib.ListN.{length}
-use Rattle.listing.specs.Parts.{rowsTo, objectionAt}
-use Rattle.listing.proofs.Parts.{no-rows, rows-longer, objections-small, objections-all}
+use Rattle.writing.specs.Rows.{rowsTo}
+use Rattle.listing.specs.Parts.{objectionAt}
+use Rattle.writing.proofs.Rows.{no-rows, rows-longer}
+use Rattle.listing.proofs.Parts.{objections-small, objections-all}
 use borrow.Author.Needs.{needs}
 use Rattle.listing.proofs.objections_size.Statement.{statement}
 use Rattle.listing.proofs.objections_size.Tie as tie

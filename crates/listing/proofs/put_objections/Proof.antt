@@ -4,10 +4,11 @@ use Prim.Native.Nat.{_-_, _≤_}
 use native.Mathlib.Omega.{arith}
 use lib.ListN.{length}
 use Rattle.writing.specs.Writing.{Fits, Put}
-use Rattle.listing.specs.Parts.{rowsTo, objectionAt}
+use Rattle.writing.specs.Rows.{rowsTo}
+use Rattle.listing.specs.Parts.{objectionAt}
 use Rattle.writing.proofs.Writing.{put-none}
-use Rattle.listing.proofs.Parts.{no-rows, objections-all}
-use Rattle.listing.proofs.Puts.{row-put, rows-fit, row-fits}
+use Rattle.writing.proofs.Rows.{no-rows, row-put, rows-fit, row-fits}
+use Rattle.listing.proofs.Parts.{objections-all}
 use borrow.Author.Needs.{needs}
 use Rattle.listing.proofs.put_objections.Statement.{statement}
 use Rattle.listing.proofs.put_objections.Tie as tie

@@ -4,10 +4,11 @@ use Prim.Native.Nat.{_+_, _-_, _≤_}
 use native.Mathlib.Omega.{arith}
 use lib.ListN.{length}
 use Rattle.writing.specs.Writing.{Put}
-use Rattle.listing.specs.Parts.{rowsTo, statementAt}
+use Rattle.writing.specs.Rows.{rowsTo}
+use Rattle.listing.specs.Parts.{statementAt}
 use Rattle.writing.proofs.Writing.{put-none}
-use Rattle.listing.proofs.Parts.{no-rows, rows-longer, rows-fewer, statements-all}
-use Rattle.listing.proofs.Puts.{row-put}
+use Rattle.writing.proofs.Rows.{no-rows, rows-longer, rows-fewer, row-put}
+use Rattle.listing.proofs.Parts.{statements-all}
 use borrow.Author.Needs.{needs}
 use Rattle.listing.proofs.put_statements.Statement.{statement}
 use Rattle.listing.proofs.put_statements.Tie as tie

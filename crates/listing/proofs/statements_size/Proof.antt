@@ -3,8 +3,10 @@ use mathlib.Core.Path.{_≡_, sym, ap}
 use Prim.Native.Nat.{_+_, _-_, _≤_}
 use native.Mathlib.Omega.{arith}
 use lib.ListN.{length}
-use Rattle.listing.specs.Parts.{rowsTo, statementAt}
-use Rattle.listing.proofs.Parts.{no-rows, rows-longer, statements-small, statements-all}
+use Rattle.writing.specs.Rows.{rowsTo}
+use Rattle.listing.specs.Parts.{statementAt}
+use Rattle.writing.proofs.Rows.{no-rows, rows-longer}
+use Rattle.listing.proofs.Parts.{statements-small, statements-all}
 use borrow.Author.Needs.{needs}
 use Rattle.listing.proofs.statements_size.Statement.{statement}
 use Rattle.listing.proofs.statements_size.Tie as tie

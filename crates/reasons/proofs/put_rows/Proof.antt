@@ -4,10 +4,9 @@ use Prim.Native.Nat.{_-_, _≤_}
 use native.Mathlib.Omega.{arith}
 use lib.ListN.{length}
 use Rattle.writing.specs.Writing.{Fits, Put}
-use Rattle.listing.specs.Parts.{rowsTo}
+use Rattle.writing.specs.Rows.{rowsTo}
 use Rattle.writing.proofs.Writing.{put-none}
-use Rattle.listing.proofs.Parts.{no-rows}
-use Rattle.listing.proofs.Puts.{row-put, rows-fit, row-fits}
+use Rattle.writing.proofs.Rows.{no-rows, row-put, rows-fit, row-fits}
 use Rattle.reasons.specs.Rows.{chosenAt}
 use Rattle.reasons.proofs.Rows.{chosen-row, passed-row, chosen-all}
 use borrow.Author.Needs.{needs}

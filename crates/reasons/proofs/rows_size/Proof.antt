@@ -3,8 +3,8 @@ use mathlib.Core.Path.{_≡_, sym, ap}
 use Prim.Native.Nat.{_+_, _-_, _≤_}
 use native.Mathlib.Omega.{arith}
 use lib.ListN.{length}
-use Rattle.listing.specs.Parts.{rowsTo}
-use Rattle.listing.proofs.Parts.{no-rows, rows-longer}
+use Rattle.writing.specs.Rows.{rowsTo}
+use Rattle.writing.proofs.Rows.{no-rows, rows-longer}
 use Rattle.reasons.specs.Rows.{chosenAt}
 use Rattle.reasons.proofs.Rows.{chosen-row, passed-row, chosen-small, chosen-all}
 use borrow.Author.Needs.{needs}

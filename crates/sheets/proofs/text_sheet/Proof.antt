@@ -7,7 +7,7 @@ use native.Mathlib.Omega.{arith}
 use Rattle.text.specs.Register.{book}
 use Rattle.answer.specs.Answer.{Short}
 use Rattle.solved.proofs.Laws.{text-promised}
-use Rattle.sheets.specs.Sheets.{SheetIn, SheetShort}
+use Rattle.sheet_rooms.specs.Rooms.{SheetIn, SheetShort}
 use borrow.Author.Needs.{needs}
 use Rattle.sheets.proofs.text_sheet.Statement.{statement}
 use Rattle.sheets.proofs.text_sheet.Tie as tie

@@ -6,7 +6,7 @@ use Prim.Native.Nat.{ℕ}
 use native.Mathlib.Omega.{arith}
 use Rattle.text.specs.Register.{book}
 use Rattle.solved.proofs.Laws.{text-promised}
-use Rattle.sheets.specs.Sheets.{UpdateRefused, UpdatedIn}
+use Rattle.sheet_rooms.specs.Rooms.{UpdateRefused, UpdatedIn}
 use borrow.Author.Needs.{needs}
 use Rattle.sheets.proofs.text_sheet_update.Statement.{statement}
 use Rattle.sheets.proofs.text_sheet_update.Tie as tie

@@ -12,9 +12,11 @@ use crate::library::session::Session;
 use crate::random::Random;
 use crate::second::expected::Expected;
 
-/// How many of the calls are made on each text, and on one in how many a sheet is updated.
+/// How many of the calls are made on each text, on one in how many a sheet is updated, and one in
+/// how many is mended.
 const HELD: usize = 2;
 const UPDATED: usize = 4;
+const MENDED: usize = 2;
 
 /// How many texts there are: damaged ones for each sound one, sound ones, and the most statements
 /// and objections of those.
@@ -81,7 +83,7 @@ fn hold(session: &mut Session, size: &Size) -> Result<(), String> {
 }
 
 /// Holds some of the calls, now and then with a room that is a little longer or shorter than the
-/// answer, and now and then an update. Answers the refusal of the text, or 0.
+/// answer, and now and then an update or the mending. Answers the refusal of the text, or 0.
 fn hold_text(session: &mut Session, random: &mut Random, text: &Text) -> Result<u32, String> {
     let expected = Expected::of_text(text);
     let mut calls = TextCall::every(&expected);
@@ -95,6 +97,9 @@ fn hold_text(session: &mut Session, random: &mut Random, text: &Text) -> Result<
     }
     if random.once_in(UPDATED) {
         session.hold_update(text, &expected, &any_sheet(text, &expected))?;
+    }
+    if random.once_in(MENDED) {
+        session.hold_mended(text)?;
     }
     Ok(expected.refused_as().0)
 }

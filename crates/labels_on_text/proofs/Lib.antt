@@ -1,0 +1,2 @@
+pub mod Solving
+pub mod Unique

@@ -1,0 +1,4 @@
+pub mod TextLines
+pub mod Mended
+pub mod Staying
+pub mod Restored

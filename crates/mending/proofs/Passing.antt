@@ -1,0 +1,117 @@
+-- One line passed: what the rooms hold behind it.
+use mathlib.Core.Bool.{Bool, true, cond}
+use mathlib.Core.List.{List, []}
+use mathlib.Core.Path.{_≡_, refl, sym, ap, subst, _∙_}
+use Prim.Native.Nat.{ℕ, _+_, _≤_, _<_}
+use native.Mathlib.Omega.{arith}
+use lib.Dec.{eqb}
+use lib.ListN.{length, getD, drop, set}
+use lib.Seq.{set-getD}
+use borrow.Author.Tests.{eq-eqb, ne-eqb}
+use Rattle.line.specs.declared.StatementLine.{StatementLine}
+use Rattle.line.specs.declared.ObjectionLine.{ObjectionLine}
+use Rattle.line.specs.declared.Line.the-variants.{Statement, Objection}
+use Rattle.text.specs.Register.{Register, Valid}
+use Rattle.text.specs.State.{Holds}
+use Rattle.mended.specs.TextLines.{TextLine, good, spoiled, unended, LinesOf}
+use Rattle.mended.specs.Mended.{settleStatement, movedIf}
+use Rattle.mended.proofs.Staying.{dropped-anyway}
+use Rattle.settling.specs.Settled.{Stated, StatementSettled, ObjectionSettled}
+use Rattle.settling.proofs.Laws.{statement-stated, objection-held}
+use Rattle.mending.specs.Passes.{AnyLineAt, Passed, StatementPassed, ObjectionPassed}
+use Rattle.mending.specs.declared.AnyLine.the-variants.{Good, Spoiled, Unended}
+use Rattle.mending.proofs.Reading.{pass-good, pass-spoiled, pass-unended}
+
+-- While statements are settled.
+module _ (s : List ℕ) (at : ℕ) (ls : List TextLine) (lines : LinesOf (drop at s) ls) (S : List StatementLine) (n : ℕ)
+    (nums marks links : List ℕ) (stated : Stated S n nums marks links) (late : Bool) (fates : List ℕ) (k : ℕ) where
+  pub past-unended : at < length s → AnyLineAt s at Unended
+      → StatementPassed s at ls S late fates k (record { next = length s; statements = n; late = late }) nums marks links (set fates k 2)
+  past-unended h u =
+      record { line = unended; passed = pass-unended s at ls lines h u; stated = stated; late-is = refl; fates-are = refl }
+
+  pub past-spoiled : (next : ℕ) → AnyLineAt s at (Spoiled next)
+      → StatementPassed s at ls S late fates k (record { next = next; statements = n; late = late }) nums marks links (set fates k 3)
+  past-spoiled next u =
+      record { line = spoiled; passed = pass-spoiled s at ls lines next u; stated = stated; late-is = refl; fates-are = refl }
+
+  pub past-objection : (o : ObjectionLine) (next : ℕ) → AnyLineAt s at (Good (Objection o) next)
+      → StatementPassed s at ls S late fates k (record { next = next; statements = n; late = true }) nums marks links (set fates k 0)
+  past-objection o next g = record {
+    line = good (Objection o);
+    passed = pass-good s at ls lines (Objection o) next g;
+    stated = stated;
+    late-is = refl;
+    fates-are = refl;
+  }
+
+  module _ (st : StatementLine) (next : ℕ) (g : AnyLineAt s at (Good (Statement st) next)) (nums-room : 1024 ≤ length nums)
+      (marks-room : 1024 ≤ length marks) (f : ℕ) (nums′ marks′ links′ : List ℕ)
+      (settled : StatementSettled nums marks n st f nums′ marks′ links′) where
+    now-stated : (f ≡ settleStatement S st .0) × Stated (settleStatement S st .1) (cond (eqb f 0) (n + 1) n) nums′ marks′ links′
+    now-stated = statement-stated S n nums marks links stated st (g .0) nums-room marks-room f nums′ marks′ links′ settled
+
+    pub past-kept : f ≡ 0 → (fate : ℕ) → fate ≡ movedIf late 0
+        → StatementPassed s at ls S late fates k (record { next = next; statements = n + 1; late = late }) nums′ marks′ links′
+        (set fates k fate)
+    past-kept z fate e = record {
+      line = good (Statement st);
+      passed = pass-good s at ls lines (Statement st) next g;
+      stated = rw (eq-eqb f 0 z) at (now-stated .1);
+      late-is = refl;
+      fates-are = ap (set fates k) (e ∙ ap (movedIf late) (sym z ∙ now-stated .0));
+    }
+
+    pub past-dropped : (f ≡ 0 → ⊥)
+        → StatementPassed s at ls S late fates k (record { next = next; statements = n; late = late }) nums′ marks′ links′
+        (set fates k f)
+    past-dropped z = record {
+      line = good (Statement st);
+      passed = pass-good s at ls lines (Statement st) next g;
+      stated = rw (ne-eqb f 0 z) at (now-stated .1);
+      late-is = refl;
+      fates-are = ap (set fates k) (sym (dropped-anyway late f (omega (arith, z))) ∙ ap (movedIf late) (now-stated .0));
+    }
+
+-- While objections are settled.
+module _ (s : List ℕ) (at : ℕ) (ls : List TextLine) (lines : LinesOf (drop at s) ls) (R : Register) (n m : ℕ)
+    (nums marks objectors targets : List ℕ) (h : Holds R n m nums marks objectors targets) (valid : Valid R) (fates : List ℕ)
+    (k : ℕ) where
+  -- a line that is no objection keeps its fate
+  same : fates ≡ set fates k (getD fates k 0)
+  same = sym (set-getD fates k 0)
+
+  pub over-unended : at < length s → AnyLineAt s at Unended
+      → ObjectionPassed s at ls R n fates k (record { next = length s; objections = m }) nums marks objectors targets fates
+  over-unended l u =
+      record { line = unended; passed = pass-unended s at ls lines l u; valid = valid; holds = h; fates-are = same }
+
+  pub over-spoiled : (next : ℕ) → AnyLineAt s at (Spoiled next)
+      → ObjectionPassed s at ls R n fates k (record { next = next; objections = m }) nums marks objectors targets fates
+  over-spoiled next u =
+      record { line = spoiled; passed = pass-spoiled s at ls lines next u; valid = valid; holds = h; fates-are = same }
+
+  pub over-statement : (st : StatementLine) (next : ℕ) → AnyLineAt s at (Good (Statement st) next)
+      → ObjectionPassed s at ls R n fates k (record { next = next; objections = m }) nums marks objectors targets fates
+  over-statement st next g = record {
+    line = good (Statement st);
+    passed = pass-good s at ls lines (Statement st) next g;
+    valid = valid;
+    holds = h;
+    fates-are = same;
+  }
+
+  pub over-objection : (o : ObjectionLine) (next : ℕ) → AnyLineAt s at (Good (Objection o) next) → n ≤ length marks
+      → 4096 ≤ length objectors → 4096 ≤ length targets → (f : ℕ) (marks′ objectors′ targets′ : List ℕ)
+      → ObjectionSettled nums marks objectors targets n m o f marks′ objectors′ targets′
+      → ObjectionPassed s at ls R n fates k (record { next = next; objections = cond (eqb f 0) (m + 1) m }) nums marks′ objectors′
+      targets′ (set fates k f)
+  over-objection o next g a b c f marks′ objectors′ targets′ settled =
+      let (e, v, held) = objection-held R n m nums marks objectors targets h valid o a b c f marks′ objectors′ targets′ settled in
+      record {
+        line = good (Objection o);
+        passed = pass-good s at ls lines (Objection o) next g;
+        valid = v;
+        holds = held;
+        fates-are = ap (set fates k) e;
+      }

@@ -1,0 +1,78 @@
+// One line of a text that is mended, settled in the lent rooms: a statement among those kept before it, or an objection among
+// all statements kept and the objections kept before it. Each function answers the line's fate: 0 kept, else the cause for which
+// it is dropped. Reading the lines is left to `mending`.
+use line::ObjectionLine;
+use line::StatementLine;
+ghost use Prim.Native.Nat.{_≤_};
+ghost use lib.ListN.{length};
+ghost use Rattle.index.specs.Indexed.{Indexed};
+ghost use Rattle.settling.specs.Settled.{StatementSettled, ObjectionSettled};
+
+// Settles a statement after n kept: 5 marks the first one unread, 6, or kept.
+pub fn settle_statement(
+    numbers: &mut [u32],
+    marks: &mut [u8],
+    links: &mut [u16],
+    n: usize,
+    statement: StatementLine,
+) -> u8
+    requires { ⌜ (n ≤ 1024) × (1024 ≤ length (now numbers)) × (1024 ≤ length (now marks)) ⌝ }
+    requires { ⌜ Indexed (now numbers) n (now links) ⌝ }
+    ensures { λ f. ⌜ StatementSettled (now (numbers .entry)) (now (marks .entry)) n statement f (now (numbers .exit))
+        (now (marks .exit)) (now (links .exit)) ⌝ }
+{
+    let number = statement.number;
+    let mark = statement.mark;
+    let own = line::mark_number(mark);
+    let first = index::look_up(numbers, n, links, number);
+    if first < n {
+        marks[first] = 1;
+        return 5;
+    }
+    if n >= 1024 {
+        return 6;
+    }
+    index::enter(numbers, n, links, number);
+    marks[n] = own;
+    0
+}
+
+// Settles an objection after n statements and m objections kept: 7 or 9 marks a listed target unread, 8, or kept.
+pub fn settle_objection(
+    numbers: &[u32],
+    marks: &mut [u8],
+    links: &[u16],
+    objectors: &mut [u32],
+    targets: &mut [u32],
+    n: usize,
+    m: usize,
+    objection: ObjectionLine,
+) -> u8
+    requires { ⌜ (n ≤ 1024) × (m ≤ 4096) × (1024 ≤ length (now marks)) × (4096 ≤ length (now objectors))
+        × (4096 ≤ length (now targets)) ⌝ }
+    requires { ⌜ Indexed (now numbers) n (now links) ⌝ }
+    ensures { λ f. ⌜ ObjectionSettled (now (numbers .entry)) (now (marks .entry)) (now (objectors .entry)) (now (targets .entry)) n m
+        objection f (now (marks .exit)) (now (objectors .exit)) (now (targets .exit)) ⌝ }
+{
+    let target = objection.target;
+    let x = index::look_up(numbers, n, links, target);
+    if x >= n {
+        return 7;
+    }
+    let objector = objection.objector;
+    let y = index::look_up(numbers, n, links, objector);
+    if y >= n {
+        marks[x] = 1; // whether its objector stands, nobody can tell
+        return 7;
+    }
+    if pairs::pair_at(objectors, targets, m, y as u32, x as u32) < m {
+        return 8;
+    }
+    if m >= 4096 {
+        marks[x] = 1; // what is past the limit still speaks against it
+        return 9;
+    }
+    objectors[m] = y as u32;
+    targets[m] = x as u32;
+    0
+}

@@ -4,6 +4,7 @@
 use super::draft::Draft;
 use super::lists::Lists;
 use crate::random::Random;
+use crate::second::refusals::MOST_STATEMENTS;
 
 pub struct Shape {
     pub name: &'static str,
@@ -42,6 +43,15 @@ impl Shape {
         } else {
             draft.in_draft_order()
         }
+    }
+
+    /// A register of this shape, with up to so many statements; at the limit all of them are wanted.
+    pub fn up_to(&self, random: &mut Random, most_statements: usize, most_pairs: usize) -> Lists {
+        let statements = match most_statements {
+            MOST_STATEMENTS => MOST_STATEMENTS,
+            most => random.between(1, most),
+        };
+        self.register(random, statements, most_pairs)
     }
 }
 

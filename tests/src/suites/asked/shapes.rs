@@ -54,12 +54,7 @@ fn hold(session: &mut Session, shape: &Shape) -> Result<(), String> {
     let mut random = Random::for_test(&format!("asked of {}", shape.name));
     for size in &SIZES {
         for _ in 0..size.registers {
-            // at the limits all of it is wanted
-            let statements = match size.statements {
-                MOST_STATEMENTS => MOST_STATEMENTS,
-                most => random.between(1, most),
-            };
-            let lists = shape.register(&mut random, statements, size.pairs);
+            let lists = shape.up_to(&mut random, size.statements, size.pairs);
             for handed in Handed::both(&mut random, &lists) {
                 hold_some(session, &mut random, &handed, size)?;
             }

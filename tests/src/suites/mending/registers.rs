@@ -43,12 +43,7 @@ fn hold_shape(session: &mut Session, shape: &Shape) -> Result<(), String> {
     let mut random = Random::for_test(&format!("mending registers of {}", shape.name));
     for (count, most_statements, most_pairs) in SIZES {
         for _ in 0..count {
-            // at the limits all of it is wanted
-            let statements = match most_statements {
-                MOST_STATEMENTS => MOST_STATEMENTS,
-                most => random.between(1, most),
-            };
-            let lists = shape.register(&mut random, statements, most_pairs);
+            let lists = shape.up_to(&mut random, most_statements, most_pairs);
             hold_unchanged(session, &mut random, &lists)?;
         }
     }

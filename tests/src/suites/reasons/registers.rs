@@ -69,12 +69,7 @@ fn hold_shape(session: &mut Session, shape: &Shape) -> Result<(), String> {
     let mut random = Random::for_test(&format!("reasons of {}", shape.name));
     for (count, (most_statements, pairs), asked) in SIZES {
         for _ in 0..count {
-            // at the limits all of it is wanted
-            let statements = match most_statements {
-                MOST_STATEMENTS => MOST_STATEMENTS,
-                most => random.between(1, most),
-            };
-            let lists = shape.register(&mut random, statements, pairs);
+            let lists = shape.up_to(&mut random, most_statements, pairs);
             let mut numbers = numbers::fitting(&mut random, &lists);
             let text = Text::written(&lists, &numbers);
             let expected = Expected::of_text(&text);

@@ -49,12 +49,7 @@ fn hold_shape(session: &mut Session, shape: &Shape) -> Result<(), String> {
     let mut random = Random::for_test(&format!("sheets of {}", shape.name));
     for (count, most_statements, most_pairs) in SIZES {
         for _ in 0..count {
-            // at the limits all of it is wanted
-            let statements = match most_statements {
-                MOST_STATEMENTS => MOST_STATEMENTS,
-                most => random.between(1, most),
-            };
-            let lists = shape.register(&mut random, statements, most_pairs);
+            let lists = shape.up_to(&mut random, most_statements, most_pairs);
             let case = Case::written(&mut random, &lists);
             hold_updates(session, &mut random, &case, most_pairs)?;
         }

@@ -23,7 +23,7 @@ fn output(text: &[u8], room: &mut [u8], report: &mut [u8]) -> Sizes
         (outcomeIn r (now (room .exit)) (now (report .exit))) ⌝ }
 {
     let mut reported: u32 = 0;
-    let answer = mends::text_mend(text, room, report, &mut reported);
+    let answer = batqemulo::text_mend(text, room, report, &mut reported);
     let Answer::Given(printed) = answer else {
         return Sizes::Refused(stream::put_answer(answer, room));
     };

@@ -16,7 +16,7 @@ use Rattle.line.specs.declared.Line.the-variants.{Statement, Objection}
 use Rattle.text.specs.Register.{Register, numbers}
 use Rattle.text.proofs.Steps.{with-objection}
 use Rattle.mended.specs.TextLines.{TextLine, good, spoiled, unended}
-use Rattle.mended.specs.Mended.{bare, unreadIf, unread, settleStatement, settleObjection, withObjection, withStatements, withObjections, listed, mended, movedIf, fateOf, fatesFrom, fates}
+use Rattle.mended.specs.Mended.{bare, unreadIf, unread, settleStatement, settleObjection, withObjection, withStatements, withObjections, lateAfter, listed, mended, movedIf, fateOf, fatesFrom, fates}
 use Rattle.mended.specs.Staying.{statementIn, objectionIn, stays, statementsStaying, objectionsStaying, goodLines, goodFates}
 use Rattle.mended.proofs.Settling.{StatementCase, second, beyond, new, statement-case, ObjectionCase, unknown, again, past, kept, objection-case}
 use Rattle.mended.proofs.Valid.{numbers-stay}
@@ -65,8 +65,8 @@ statements-from (good (Objection o) ∷ ls) S late R =
     statements-from ls S true (settleObjection R o .1)
     ∙ ap (λ u. numbersOf S ++ numbersOf (u ++ statementsStaying ls (fatesFrom S true (settleObjection R o .1) ls)))
     (sym (nothing (stays (settleObjection R o .0))))
-statements-from (spoiled ∷ ls) S late R = statements-from ls S late R
-statements-from (unended ∷ ls) S late R = statements-from ls S late R
+statements-from (spoiled ∷ ls) S late R = statements-from ls S (lateAfter late spoiled) R
+statements-from (unended ∷ ls) S late R = statements-from ls S (lateAfter late unended) R
 
 objections-from : (ls : List TextLine) (S : List StatementLine) (late : Bool) (R : Register)
     → withObjections R ls .objections ≡ R .objections ++ objectionsStaying ls (fatesFrom S late R ls)
@@ -87,8 +87,8 @@ objections-from (good (Objection o) ∷ ls) S late R = go (λ R. objections-from
     go on (kept k h l e) =
         rw e (on (with-objection R o)
         ∙ append-assoc (R .objections) (o ∷ []) (objectionsStaying ls (fatesFrom S true (with-objection R o) ls)))
-objections-from (spoiled ∷ ls) S late R = objections-from ls S late R
-objections-from (unended ∷ ls) S late R = objections-from ls S late R
+objections-from (spoiled ∷ ls) S late R = objections-from ls S (lateAfter late spoiled) R
+objections-from (unended ∷ ls) S late R = objections-from ls S (lateAfter late unended) R
 
 -- settling objections leaves the numbers
 pub numbers-after : (R : Register) (l : TextLine) → numbers (withObjection R l) ≡ numbers R

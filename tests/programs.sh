@@ -20,7 +20,9 @@ if [ "$(uname -m)" = x86_64 ]; then
         gcc "$@" -o "$out"
     }
 else
-    emulator=("$tools/bin/qemu-x86_64")
+    # a processor that does not claim fast string instructions: memset is written with them where it
+    # does, and they are the slowest of all when emulated
+    emulator=("$tools/bin/qemu-x86_64" -cpu qemu64)
     start=("${emulator[@]}" "${loader[@]}")
     mapfile -t headers < <(gcc -xc -E -v - </dev/null 2>&1 |
         sed -n '/starts here/,/^End/s/^ /-isystem/p')

@@ -20,9 +20,9 @@ use Rattle.line.specs.declared.StatementLine.{StatementLine}
 use Rattle.line.specs.declared.ObjectionLine.{ObjectionLine}
 use Rattle.line.specs.declared.Line.{Line}
 use Rattle.line.specs.declared.Line.the-variants.{Statement, Objection}
-use Rattle.text.specs.Register.{Register, numbers, Issued, Valid, bytes, written, placeOf, marksOf, objectorsOf, targetsOf, book}
-use Rattle.text.specs.Reads.{Accepts}
-use Rattle.text.proofs.Order.{mapped, place-first, number-there, numbers-counted, marks-counted, objectors-counted}
+use Rattle.register.specs.Register.{Register, numbers, Issued, Valid, bytes, written, placeOf, marksOf, objectorsOf, targetsOf, book}
+use Rattle.register.specs.Reads.{Accepts}
+use Rattle.register.proofs.Order.{mapped, place-first, number-there, numbers-counted, marks-counted, objectors-counted}
 use Rattle.rows.specs.Rows.{statementRow}
 use Rattle.listing.specs.Listing.{IsListing}
 use Rattle.alone.specs.Alone.{keep, Alone}

@@ -8,7 +8,7 @@ use Prim.Native.Nat.{ℕ, suc, _<_}
 use lib.Dec.{T}
 use lib.ListN.{length, getD}
 use Rattle.game.specs.Reason.{InReason, OfReason}
-use Rattle.text.specs.Register.{Register, objectorsOf, targetsOf, book}
+use Rattle.register.specs.Register.{Register, objectorsOf, targetsOf, book}
 
 -- the entries of a list that pass a test, which is told their places; in order
 unfoldable pub keep : {A : Type 0} → (ℕ → Bool) → List A → List A

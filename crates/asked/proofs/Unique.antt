@@ -8,7 +8,7 @@ use Rattle.game.specs.Line.{Line}
 use Rattle.game.proofs.Line.{line-unique}
 use Rattle.exercise.specs.Exercise.{Answered}
 use Rattle.exercise.proofs.Exercise.{answered-once}
-use Rattle.text.specs.Register.{Register, numbers, Issued, book}
+use Rattle.register.specs.Register.{Register, numbers, Issued, book}
 use Rattle.refusal.specs.declared.Refusal.{Refusal}
 use Rattle.answer.specs.Answer.{Asks}
 use Rattle.answer.specs.declared.Answer.{Answer}
@@ -17,7 +17,7 @@ use Rattle.solved.proofs.Laws.{place-once, text-unique}
 use Rattle.solved.proofs.Lists.{asked-exactly, list-apart, list-unique}
 use Rattle.asking.specs.Asking.{byNumber, LineIn, LineShort, ExerciseIn}
 use Rattle.asked.specs.Asked.{TextLine, TextExercise}
-use Rattle.text.specs.Reads.{Accepts}
+use Rattle.register.specs.Reads.{Accepts}
 
 -- a statement has one line of argument, and told by numbers it is as long
 abbrev LineOf : Register → ℕ → List ℕ → Type 0

@@ -2,8 +2,8 @@
 -- those of the book of the register that the text is the written form of; what is promised of the register is said in `asking`.
 use mathlib.Core.List.{List}
 use Prim.Native.Nat.{ℕ}
-use Rattle.text.specs.Register.{Register, Issued}
-use Rattle.text.specs.Reads.{Accepts}
+use Rattle.register.specs.Register.{Register, Issued}
+use Rattle.register.specs.Reads.{Accepts}
 use Rattle.solved.specs.Solved.{TextRefuses}
 use Rattle.answer.specs.Answer.{Promised, Asks}
 use Rattle.answer.specs.declared.Answer.{Answer}

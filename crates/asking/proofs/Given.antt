@@ -15,9 +15,9 @@ use Rattle.game.proofs.Line.{line-bound, line-listed}
 use Rattle.label.proofs.Parts.{beyond}
 use Rattle.argument.specs.Argument.{Lined}
 use Rattle.exercise.specs.Exercise.{Answered}
-use Rattle.text.specs.Register.{Register, numbers, Issued, book}
+use Rattle.register.specs.Register.{Register, numbers, Issued, book}
 use Rattle.text.specs.State.{Made}
-use Rattle.text.proofs.Order.{mapped}
+use Rattle.register.proofs.Order.{mapped}
 use Rattle.solved.specs.Solved.{Places}
 use Rattle.solved.proofs.Asked.{lists-handed, counted, book-is, place}
 use Rattle.refusal.specs.declared.Refusal.the-variants.{Room, Turns}

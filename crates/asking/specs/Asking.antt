@@ -4,7 +4,7 @@ use mathlib.Core.List.{List, map}
 use Prim.Native.Nat.{ℕ, _≤_, _<_}
 use lib.ListN.{length, getD}
 use Rattle.game.specs.Line.{Line}
-use Rattle.text.specs.Register.{Register, numbers, Issued, book}
+use Rattle.register.specs.Register.{Register, numbers, Issued, book}
 use Rattle.exercise.specs.Exercise.{Answered}
 use Rattle.solved.specs.Solved.{Places}
 use Rattle.refusal.specs.declared.Refusal.{Refusal}

@@ -6,7 +6,7 @@ use refusal::Refusal;
 ghost use mathlib.Core.Path.{_≡_};
 ghost use Prim.Native.Nat.{ℕ, _≤_, _<_};
 ghost use lib.ListN.{length, getD};
-ghost use Rattle.text.specs.Register.{Register};
+ghost use Rattle.register.specs.Register.{Register};
 ghost use Rattle.text.specs.State.{Made};
 ghost use Rattle.solved.specs.Solved.{Ready};
 ghost use Rattle.answer.specs.Answer.{Begins};

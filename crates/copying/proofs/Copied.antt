@@ -11,11 +11,11 @@ use Rattle.line.specs.declared.Mark.the-variants.{Read, Unread}
 use Rattle.line.specs.declared.StatementLine.{StatementLine}
 use Rattle.line.specs.declared.ObjectionLine.{ObjectionLine}
 use Rattle.line.specs.declared.Line.the-variants.{Statement, Objection}
-use Rattle.text.specs.Register.{Register, numbers, objectorNumbers, targetNumbers, marksOf, objectorsOf, targetsOf}
-use Rattle.text.specs.Register.{bytes, written}
+use Rattle.register.specs.Register.{Register, numbers, objectorNumbers, targetNumbers, marksOf, objectorsOf, targetsOf}
+use Rattle.register.specs.Register.{bytes, written}
 use Rattle.text.specs.State.{Made}
-use Rattle.text.proofs.Order.{number-there, numbers-counted, marks-counted, objectors-counted, register-in-order}
-use Rattle.text.proofs.Steps.{bytes-append}
+use Rattle.register.proofs.Order.{number-there, numbers-counted, marks-counted, objectors-counted, register-in-order}
+use Rattle.register.proofs.Steps.{bytes-append}
 use Rattle.writing.specs.Rows.{rowsTo}
 use Rattle.writing.specs.Writing.{Fits, Put}
 use Rattle.copying.specs.Copied.{markOf, statementBytes, objectionBytes, statementText, objectionText}

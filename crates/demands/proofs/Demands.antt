@@ -14,10 +14,10 @@ use Rattle.game.specs.declared.Kind.the-variants.{Idle}
 use Rattle.game.proofs.Objection.{kind-unique}
 use Rattle.pairs.specs.Refuses.{Lists, Refuses}
 use Rattle.pairs.proofs.Laws as pairs
-use Rattle.text.specs.Register.{Register, numbers, objectorNumbers, targetNumbers, written, Issued, objectorsOf, targetsOf, book}
-use Rattle.text.proofs.Order.{mapped, marks-counted, numbers-counted}
-use Rattle.text.proofs.Unique as text
-use Rattle.text.proofs.Settled as settled
+use Rattle.register.specs.Register.{Register, numbers, objectorNumbers, targetNumbers, written, Issued, objectorsOf, targetsOf, book}
+use Rattle.register.proofs.Order.{mapped, marks-counted, numbers-counted}
+use Rattle.register.proofs.Unique as text
+use Rattle.register.proofs.Settled as settled
 use Rattle.listing.specs.Listing.{IsListing}
 use Rattle.listing.proofs.Listing.{listing-once}
 use Rattle.refusal.specs.declared.Refusal.{Refusal}
@@ -56,8 +56,8 @@ use Rattle.mends.specs.Mends.{Lent, MendedShort, Lined, MendRefused, TextMend}
 use Rattle.mends.proofs.Unique.{unique-text-mend}
 use Rattle.batqemulo.specs.Demands.{Settled, Answers, LabelSays, LengthSays, KindSays}
 use Rattle.demands.proofs.Says.{label-says, length-says, kind-says}
-use Rattle.text.specs.Reads.{Accepts}
-use Rattle.text.specs.Reads as reads
+use Rattle.register.specs.Reads.{Accepts}
+use Rattle.register.specs.Reads as reads
 
 -- Demand 1: every text, and every handed list, is accepted or refused, never both, with one refusal.
 pub text-settled : (s : List ℕ) → Settled (Accepts s) (reads.Refuses s)

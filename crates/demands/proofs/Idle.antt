@@ -15,8 +15,8 @@ use Rattle.game.specs.Rules.{fallsWithin, standsWithin}
 use Rattle.game.proofs.Search.{clash, all-at}
 use Rattle.game.proofs.Verdict.{verdict, verdictBy, verdict-means}
 use Rattle.pairs.specs.Refuses.{Lists}
-use Rattle.text.specs.Register.{Register, book, placeOf}
-use Rattle.text.proofs.Order.{marks-counted}
+use Rattle.register.specs.Register.{Register, book, placeOf}
+use Rattle.register.proofs.Order.{marks-counted}
 use Rattle.listing.proofs.Parts.{upTo, length-upTo, getD-upTo}
 use Rattle.table.specs.Table.{ascii}
 use Rattle.table.proofs.Check.{lone, chain, lone-accepted, chain-accepted}
@@ -28,7 +28,7 @@ use Rattle.on_lists.specs.Lists.{Statements, PairsLabels, PairsLengths}
 use Rattle.on_lists.proofs.Unique.{unique-pairs-labels, unique-pairs-lengths}
 use Rattle.labels_on_text.specs.Statements.{TextStatements, TextLabels, TextLengths}
 use Rattle.labels_on_text.proofs.Unique.{unique-text-labels, unique-text-lengths}
-use Rattle.text.specs.Reads.{Accepts}
+use Rattle.register.specs.Reads.{Accepts}
 
 -- a room of as many entries as there are statements, with a number of each one's verdict
 told : (n : ℕ) (entry : ℕ → ℕ → Type 0) (number : ℕ → ℕ) (room : List ℕ) → length room ≡ n

@@ -1,6 +1,8 @@
 // The public call for the kinds of objections on handed lists. It checks the lists, has them solved, and writes the kind and the
 // length of each objection into the rooms; a kind itself is left to `label`.
 use answer::Answer;
+use kind::kind_length;
+use kind::kind_number;
 use pairs::Checked;
 use refusal::Refusal;
 ghost use Prim.Native.Nat.{_≤_};
@@ -33,8 +35,8 @@ fn write_kinds(
     let mut k = 0;
     while k < objectors.len() {
         let kind = label::kind_at(marks, objectors, targets, labels, turns, k);
-        kinds[k] = game::kind_number(kind);
-        lengths[k] = game::kind_length(kind);
+        kinds[k] = kind_number(kind);
+        lengths[k] = kind_length(kind);
         k += 1;
     }
 }

@@ -158,5 +158,5 @@ pub fn kind_at(
 {
     let y = place(objectors[k]);
     let x = place(targets[k]);
-    game::kind_of(labels[x], labels[y], lengths[y])
+    kind::kind_of(labels[x], labels[y], lengths[y])
 }

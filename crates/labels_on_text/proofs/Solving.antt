@@ -8,7 +8,7 @@ use native.Mathlib.Omega.{arith}
 use lib.ListN.{length, getD}
 use Rattle.game.specs.Book.{bookOf}
 use Rattle.game.specs.Label.{Verdict, Told, labelNumber, lengthNumber}
-use Rattle.text.specs.Register.{book}
+use Rattle.register.specs.Register.{book}
 use Rattle.text.specs.declared.Reading.the-variants.{Whole}
 use Rattle.refusal.specs.declared.Refusal.the-variants.{Room}
 use Rattle.answer.specs.Answer.{Begins, Short}

@@ -7,8 +7,8 @@ use native.Mathlib.Omega.{arith}
 use lib.ListN.{length}
 use Rattle.game.specs.Label.{Verdict, Means}
 use Rattle.game.proofs.Verdict.{number-unique}
-use Rattle.text.specs.Register.{Register, book}
-use Rattle.text.proofs.Unique as text
+use Rattle.register.specs.Register.{Register, book}
+use Rattle.register.proofs.Unique as text
 use Rattle.refusal.specs.declared.Refusal.{Refusal}
 use Rattle.answer.specs.Answer.{Begins, Short}
 use Rattle.answer.specs.declared.Answer.{Answer}

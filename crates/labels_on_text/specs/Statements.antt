@@ -5,8 +5,8 @@ use mathlib.Core.Path.{_≡_}
 use Prim.Native.Nat.{ℕ, _<_}
 use lib.ListN.{length}
 use Rattle.game.specs.Label.{Verdict, Means, labelNumber, lengthNumber}
-use Rattle.text.specs.Register.{Register, book}
-use Rattle.text.specs.Reads.{Accepts}
+use Rattle.register.specs.Register.{Register, book}
+use Rattle.register.specs.Reads.{Accepts}
 use Rattle.solved.specs.Solved.{TextRefuses}
 use Rattle.answer.specs.Answer.{Promised, Begins, Short}
 use Rattle.answer.specs.declared.Answer.{Answer}

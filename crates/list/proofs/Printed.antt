@@ -7,9 +7,9 @@ use native.Mathlib.Omega.{arith}
 use lib.ListN.{length, take}
 use Rattle.refusal.specs.Numbers.{numberOf, placeOf}
 use Rattle.refusal.specs.declared.Refusal.{Refusal}
-use Rattle.text.specs.Register.{Register}
-use Rattle.text.specs.Reads.{Accepts, Refuses}
-use Rattle.text.proofs.Unique as text
+use Rattle.register.specs.Register.{Register}
+use Rattle.register.specs.Reads.{Accepts, Refuses}
+use Rattle.register.proofs.Unique as text
 use Rattle.rows.specs.Rows.{refusedRow}
 use Rattle.listing.specs.Listing.{IsListing}
 use Rattle.listing.proofs.Listing.{listing-once, listing-short}

@@ -6,10 +6,10 @@ use mathlib.Core.Path.{_≡_}
 use Prim.Native.Nat.{ℕ}
 use Rattle.refusal.specs.Numbers.{numberOf, placeOf}
 use Rattle.refusal.specs.declared.Refusal.{Refusal}
-use Rattle.text.specs.Register.{Register}
+use Rattle.register.specs.Register.{Register}
 use Rattle.rows.specs.Rows.{refusedRow}
 use Rattle.listing.specs.Listing.{IsListing}
-use Rattle.text.specs.Reads.{Accepts, Refuses}
+use Rattle.register.specs.Reads.{Accepts, Refuses}
 
 abbrev pub Prints : (text printed : List ℕ) → Type 0
 Prints text printed =

@@ -19,14 +19,14 @@ use Rattle.line.specs.declared.StatementLine.{StatementLine}
 use Rattle.line.specs.declared.ObjectionLine.{ObjectionLine}
 use Rattle.line.specs.declared.Line.{Line}
 use Rattle.line.specs.declared.Line.the-variants.{Statement, Objection}
-use Rattle.text.specs.Register.{Register, marksOf, objectorsOf, targetsOf, bytes, book}
-use Rattle.text.proofs.Order.{marks-counted}
+use Rattle.register.specs.Register.{Register, marksOf, objectorsOf, targetsOf, bytes, book}
+use Rattle.register.proofs.Order.{marks-counted}
 use Rattle.rows.specs.Rows.{lengthField, kindField, header, statementRow, objectionRow}
 use Rattle.rows.specs.Said.{verdictFields, kindFields}
 use Rattle.listing.specs.Listing.{statementRows, objectionRows, listing, IsListing}
 use Rattle.writing.proofs.Digits.{four-digits}
 use Rattle.rows.proofs.Rows.{header-length, statement-length, objection-length}
-use Rattle.text.specs.Reads.{Accepts}
+use Rattle.register.specs.Reads.{Accepts}
 
 -- What a register's listing is, is not up to the program.
 pub listing-once : (R : Register) (l l′ : List ℕ) → IsListing R l → IsListing R l′ → l ≡ l′

@@ -14,8 +14,8 @@ use Rattle.game.proofs.Verdict.{means-unique}
 use Rattle.game.proofs.Objection.{kind-exists}
 use Rattle.game.proofs.Lists.{objects-entry}
 use Rattle.line.specs.declared.ObjectionLine.{ObjectionLine}
-use Rattle.text.specs.Register.{Register, numbers, objectorNumbers, targetNumbers, marksOf, objectorsOf, targetsOf, book}
-use Rattle.text.proofs.Order.{number-there, numbers-counted, marks-counted, objectors-counted, register-in-order}
+use Rattle.register.specs.Register.{Register, numbers, objectorNumbers, targetNumbers, marksOf, objectorsOf, targetsOf, book}
+use Rattle.register.proofs.Order.{number-there, numbers-counted, marks-counted, objectors-counted, register-in-order}
 use Rattle.solved.specs.Solved.{Ready}
 use Rattle.writing.specs.Rows.{rowsTo}
 use Rattle.rows.specs.Rows.{header, objectionRow}

@@ -11,7 +11,7 @@ use Rattle.game.specs.declared.Kind.{Kind}
 use Rattle.game.specs.declared.Kind.the-variants.{Idle}
 use Rattle.line.specs.declared.StatementLine.{StatementLine}
 use Rattle.line.specs.declared.ObjectionLine.{ObjectionLine}
-use Rattle.text.specs.Register.{Register, objectorsOf, targetsOf, book}
+use Rattle.register.specs.Register.{Register, objectorsOf, targetsOf, book}
 use Rattle.rows.specs.Rows.{header, statementRow, objectionRow}
 
 -- the rows of the statements with their verdicts, and of the objections with their kinds, in order

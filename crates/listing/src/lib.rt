@@ -5,7 +5,7 @@ ghost use mathlib.Core.List.{List, _++_};
 ghost use mathlib.Core.Path.{_≡_};
 ghost use Prim.Native.Nat.{ℕ, _≤_, _<_};
 ghost use lib.ListN.{length, drop};
-ghost use Rattle.text.specs.Register.{Register};
+ghost use Rattle.register.specs.Register.{Register};
 ghost use Rattle.solved.specs.Solved.{Ready};
 ghost use Rattle.writing.specs.Writing.{Fits, Put};
 ghost use Rattle.listing.specs.Listing.{IsListing};

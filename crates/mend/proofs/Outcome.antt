@@ -8,7 +8,7 @@ use lib.ListN.{length, take}
 use Rattle.refusal.specs.Numbers.{numberOf, placeOf}
 use Rattle.refusal.specs.declared.Refusal.{Refusal}
 use Rattle.refusal.specs.declared.Refusal.the-variants.{TooLong}
-use Rattle.text.specs.Register.{written}
+use Rattle.register.specs.Register.{written}
 use Rattle.rows.specs.Rows.{refusedRow}
 use Rattle.answer.specs.Answer.{Written}
 use Rattle.answer.specs.declared.Answer.the-variants.{Refused as NotGiven, Given}

@@ -6,7 +6,7 @@ use Prim.Native.Nat.{ℕ, _≤_, _<_}
 use lib.ListN.{length, take}
 use Rattle.refusal.specs.Numbers.{numberOf, placeOf}
 use Rattle.refusal.specs.declared.Refusal.the-variants.{TooLong}
-use Rattle.text.specs.Register.{written}
+use Rattle.register.specs.Register.{written}
 use Rattle.rows.specs.Rows.{refusedRow}
 use Rattle.mended.specs.TextLines.{TextLine, LinesOf}
 use Rattle.mended.specs.Mended.{mended, fates}

@@ -12,12 +12,12 @@ use Rattle.line.specs.declared.StatementLine.{StatementLine}
 use Rattle.line.specs.declared.ObjectionLine.{ObjectionLine}
 use Rattle.line.specs.declared.Line.{Line}
 use Rattle.line.specs.declared.Line.the-variants.{Statement, Objection}
-use Rattle.text.specs.Register.{Register, numbers, objectorNumbers, targetNumbers, Issued, Has, Valid, lines, written}
-use Rattle.text.specs.Reads.{Accepts}
-use Rattle.text.proofs.Steps.{with-objection}
-use Rattle.text.proofs.Unique.{lines-formed}
+use Rattle.register.specs.Register.{Register, bare, numbers, objectorNumbers, targetNumbers, Issued, Has, Valid, lines, written}
+use Rattle.register.specs.Reads.{Accepts}
+use Rattle.register.proofs.Steps.{with-objection}
+use Rattle.register.proofs.Unique.{lines-formed}
 use Rattle.mended.specs.TextLines.{TextLine, good, spoiled, unended, LinesOf}
-use Rattle.mended.specs.Mended.{bare, settleStatement, settleObjection, withStatements, withObjections, listed, mended, movedIf, fatesFrom, fates}
+use Rattle.mended.specs.Mended.{settleStatement, settleObjection, withStatements, withObjections, listed, mended, movedIf, fatesFrom, fates}
 use Rattle.mended.proofs.Lines.{lines-once, written-lines, lines-written}
 use Rattle.mended.proofs.Settling.{StatementCase, second, beyond, new, statement-case, settles-new, ObjectionCase, unknown, again, past, kept, objection-case, settles-kept}
 use Rattle.mended.proofs.Staying.{dropped-anyway}

@@ -12,9 +12,9 @@ use Rattle.line.specs.Lines.{lineBytes, WellFormed, BeginsWith}
 use Rattle.line.specs.declared.Line.{Line}
 use Rattle.line.specs.declared.Line.the-variants.{Statement, Objection}
 use Rattle.line.proofs.Lines.{line-once, line-not-empty, line-ended}
-use Rattle.text.specs.Register.{bytes}
-use Rattle.text.proofs.Unique.{Formed}
-use Rattle.text.proofs.Settled.{line?}
+use Rattle.register.specs.Register.{bytes}
+use Rattle.register.proofs.Unique.{Formed}
+use Rattle.register.proofs.Settled.{line?}
 use Rattle.mended.specs.TextLines.{TextLine, good, spoiled, unended, Unbroken, LinesOf}
 
 -- the bytes up to the first byte 10, if there is one

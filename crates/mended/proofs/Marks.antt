@@ -17,15 +17,15 @@ use Rattle.line.specs.declared.Mark.the-variants.{Read, Unread}
 use Rattle.line.specs.declared.StatementLine.{StatementLine}
 use Rattle.line.specs.declared.ObjectionLine.{ObjectionLine}
 use Rattle.line.specs.declared.Line.the-variants.{Statement, Objection}
-use Rattle.text.specs.Register.{Register, numbers, marksOf, Issued, Valid}
+use Rattle.register.specs.Register.{Register, bare, numbers, marksOf, Issued, Valid}
 use Rattle.mended.specs.TextLines.{TextLine, good, spoiled, unended, LinesOf, StatementAt, ObjectionAt}
-use Rattle.mended.specs.Mended.{bare, unreadIf, settleStatement, settleObjection, withStatement, withObjection, withStatements, withObjections, listed, mended, lateAfter, movedIf, fateOf, fatesFrom, fates}
+use Rattle.mended.specs.Mended.{unreadIf, settleStatement, settleObjection, withStatement, withObjection, withStatements, withObjections, listed, mended, lateAfter, movedIf, fateOf, fatesFrom, fates}
 use Rattle.mended.specs.Staying.{stays, UnreadBy}
 use Rattle.mended.proofs.Settling.{StatementCase, second, beyond, new, statement-case, ObjectionCase, unknown, again, past, kept, objection-case}
 use Rattle.mended.proofs.Valid.{mended-valid}
 use Rattle.mended.proofs.Staying.{dropped-anyway, kept-stays, numbers-after, numbers-settled}
 use Rattle.mended.proofs.Passes.{Some, some-at, some-by, each, comes-by, remains, comes}
-use Rattle.text.proofs.Order.{numbers-counted}
+use Rattle.register.proofs.Order.{numbers-counted}
 
 -- a statement of this number is marked unread
 Marked : List StatementLine → ℕ → Type 0

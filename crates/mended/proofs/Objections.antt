@@ -10,8 +10,8 @@ use lib.ListN.{length, getD, length-append}
 use Rattle.line.specs.declared.StatementLine.{StatementLine}
 use Rattle.line.specs.declared.ObjectionLine.{ObjectionLine}
 use Rattle.line.specs.declared.Line.the-variants.{Statement, Objection}
-use Rattle.text.specs.Register.{Register, Has}
-use Rattle.text.proofs.Steps.{with-objection, Old, New, old-or-new}
+use Rattle.register.specs.Register.{Register, Has}
+use Rattle.register.proofs.Steps.{with-objection, Old, New, old-or-new}
 use Rattle.mended.specs.TextLines.{TextLine, good, spoiled, unended, ObjectionAt}
 use Rattle.mended.specs.Mended.{settleObjection, withStatement, withObjection, listed, mended, fateOf, fates}
 use Rattle.mended.proofs.Settling.{ObjectionCase, unknown, again, past, kept, objection-case}

@@ -9,7 +9,7 @@ use native.Mathlib.Nat.{not-suc-le-zero, le-of-suc-le-suc}
 use native.Mathlib.Omega.{arith}
 use lib.ListN.{length, getD}
 use Rattle.line.specs.declared.StatementLine.{StatementLine}
-use Rattle.text.specs.Register.{Register}
+use Rattle.register.specs.Register.{Register}
 use Rattle.mended.specs.TextLines.{TextLine, spoiled}
 use Rattle.mended.specs.Mended.{withStatement, withObjection, withStatements, withObjections, lateAfter, fateOf, fatesFrom}
 

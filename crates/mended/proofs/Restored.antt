@@ -23,9 +23,9 @@ use Rattle.line.specs.declared.Mark.the-variants.{Unread}
 use Rattle.line.specs.declared.StatementLine.{StatementLine}
 use Rattle.line.specs.declared.ObjectionLine.{ObjectionLine}
 use Rattle.line.specs.declared.Line.the-variants.{Statement, Objection}
-use Rattle.text.specs.Register.{Register, numbers, objectorNumbers, targetNumbers, Issued, Has, Valid, placeOf, marksOf, objectorsOf, targetsOf, book}
-use Rattle.text.proofs.Order.{mapped, place-first, number-there, numbers-counted, marks-counted, objectors-counted}
-use Rattle.text.proofs.Settled.{Settles, same?, below?, issued?}
+use Rattle.register.specs.Register.{Register, numbers, objectorNumbers, targetNumbers, Issued, Has, Valid, placeOf, marksOf, objectorsOf, targetsOf, book}
+use Rattle.register.proofs.Order.{mapped, place-first, number-there, numbers-counted, marks-counted, objectors-counted}
+use Rattle.register.proofs.Settled.{Settles, same?, below?, issued?}
 use Rattle.mended.specs.TextLines.{TextLine, good, spoiled, unended, LinesOf, StatementAt, ObjectionAt}
 use Rattle.mended.specs.Mended.{mended, fates}
 use Rattle.mended.specs.Staying.{statementIn, stays, statementsStaying, UnreadBy}

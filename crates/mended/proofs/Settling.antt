@@ -14,10 +14,10 @@ use Rattle.game.specs.Book.{any}
 use Rattle.game.proofs.Search.{as-true, as-false, refute, any-of, any-at, and-of, both}
 use Rattle.line.specs.declared.StatementLine.{StatementLine}
 use Rattle.line.specs.declared.ObjectionLine.{ObjectionLine}
-use Rattle.text.specs.Register.{Register, numbers, objectorNumbers, targetNumbers, Issued, Has}
-use Rattle.text.proofs.Steps.{with-objection}
-use Rattle.text.proofs.Settled.{issued?, has?}
-use Rattle.mended.specs.Mended.{issued, has, bare, unreadIf, unread, settleStatement, settleObjection}
+use Rattle.register.specs.Register.{Register, bare, numbers, objectorNumbers, targetNumbers, Issued, Has}
+use Rattle.register.proofs.Steps.{with-objection}
+use Rattle.register.proofs.Settled.{issued?, has?}
+use Rattle.mended.specs.Mended.{issued, has, unreadIf, unread, settleStatement, settleObjection}
 
 -- a test that says whether something is so
 module _ (P : Type 0) (b : Bool) (is : T b ↔ P) where

@@ -13,10 +13,10 @@ use borrow.Author.Tests.{ne-eqb}
 use Rattle.line.specs.declared.StatementLine.{StatementLine}
 use Rattle.line.specs.declared.ObjectionLine.{ObjectionLine}
 use Rattle.line.specs.declared.Line.the-variants.{Statement, Objection}
-use Rattle.text.specs.Register.{Register, numbers}
-use Rattle.text.proofs.Steps.{with-objection}
+use Rattle.register.specs.Register.{Register, bare, numbers}
+use Rattle.register.proofs.Steps.{with-objection}
 use Rattle.mended.specs.TextLines.{TextLine, good, spoiled, unended}
-use Rattle.mended.specs.Mended.{bare, unreadIf, unread, settleStatement, settleObjection, withObjection, withStatements, withObjections, lateAfter, listed, mended, movedIf, fateOf, fatesFrom, fates}
+use Rattle.mended.specs.Mended.{unreadIf, unread, settleStatement, settleObjection, withObjection, withStatements, withObjections, lateAfter, listed, mended, movedIf, fateOf, fatesFrom, fates}
 use Rattle.mended.specs.Staying.{statementIn, objectionIn, stays, statementsStaying, objectionsStaying, goodLines, goodFates}
 use Rattle.mended.proofs.Settling.{StatementCase, second, beyond, new, statement-case, ObjectionCase, unknown, again, past, kept, objection-case}
 use Rattle.mended.proofs.Valid.{numbers-stay}

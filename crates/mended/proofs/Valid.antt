@@ -1,9 +1,8 @@
 -- What is left is a register in order, and as a text it is no longer than the text that was mended.
 use mathlib.Core.Bool.{Bool, true, false, cond}
 use mathlib.Core.List.{List, [], _∷_, _++_, map}
-use mathlib.Core.Path.{_≡_, refl, sym, ap, ap₂, subst, _∙_}
+use mathlib.Core.Path.{_≡_, refl, ap, ap₂}
 use Prim.Native.Nat.{ℕ, _+_, _≤_}
-use native.Mathlib.Nat.{not-suc-le-zero}
 use native.Mathlib.Omega.{arith}
 use lib.Dec.{eqb}
 use lib.ListN.{length, length-append, length-map}
@@ -15,11 +14,11 @@ use Rattle.line.specs.declared.StatementLine.{StatementLine}
 use Rattle.line.specs.declared.ObjectionLine.{ObjectionLine}
 use Rattle.line.specs.declared.Line.{Line}
 use Rattle.line.specs.declared.Line.the-variants.{Statement, Objection}
-use Rattle.text.specs.Register.{Register, numbers, Valid, bytes, written}
-use Rattle.text.specs.Reads.{Accepts}
-use Rattle.text.proofs.Steps.{with-statement, with-objection, valid-statement, valid-objection, written-statement, written-objection}
+use Rattle.register.specs.Register.{Register, bare, Valid, bytes, written}
+use Rattle.register.specs.Reads.{Accepts}
+use Rattle.register.proofs.Steps.{empty-valid, valid-statement, valid-objection, written-statement, written-objection}
 use Rattle.mended.specs.TextLines.{TextLine, good, spoiled, unended, LinesOf}
-use Rattle.mended.specs.Mended.{bare, unreadIf, unread, settleStatement, settleObjection, withStatements, withObjections, listed, mended}
+use Rattle.mended.specs.Mended.{unreadIf, unread, settleStatement, settleObjection, withStatements, withObjections, listed, mended}
 use Rattle.mended.proofs.Settling.{StatementCase, second, beyond, new, statement-case, ObjectionCase, unknown, again, past, kept, objection-case}
 
 -- a mark that changes leaves the number, and the size of the line
@@ -105,16 +104,6 @@ objections-valid (good (Statement st) ∷ ls) R v = objections-valid ls R v
 objections-valid (good (Objection o) ∷ ls) R v = objections-valid ls (settleObjection R o .1) (objection-valid R o v)
 objections-valid (spoiled ∷ ls) R v = objections-valid ls R v
 objections-valid (unended ∷ ls) R v = objections-valid ls R v
-
-pub empty-valid : Valid (bare [])
-empty-valid = record {
-  few-statements = omega arith;
-  few-objections = omega arith;
-  numbered = λ i h. absurd (not-suc-le-zero h);
-  once = λ i j h k. absurd (not-suc-le-zero k);
-  known = λ k h. absurd (not-suc-le-zero h);
-  distinct = λ j k h i. absurd (not-suc-le-zero i);
-}
 
 pub mended-valid : (s : List ℕ) (ls : List TextLine) → LinesOf s ls → Valid (mended ls)
 mended-valid s ls p = objections-valid ls (listed ls) (statements-valid s ls [] p empty-valid)

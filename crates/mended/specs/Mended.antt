@@ -11,7 +11,7 @@ use Rattle.line.specs.declared.Mark.the-variants.{Unread}
 use Rattle.line.specs.declared.StatementLine.{StatementLine}
 use Rattle.line.specs.declared.ObjectionLine.{ObjectionLine}
 use Rattle.line.specs.declared.Line.the-variants.{Statement, Objection}
-use Rattle.text.specs.Register.{Register, numbers, objectorNumbers, targetNumbers}
+use Rattle.register.specs.Register.{Register, bare, numbers, objectorNumbers, targetNumbers}
 use Rattle.mended.specs.TextLines.{TextLine, good, spoiled, unended}
 
 -- a number is on the register; it has an objection
@@ -22,10 +22,6 @@ abbrev pub has : Register → ObjectionLine → Bool
 has R o =
     any (length (R .objections))
     (λ k. eqb (getD (objectorNumbers R) k 0) (o .objector) && eqb (getD (targetNumbers R) k 0) (o .target))
-
--- the register of some statements and no objections
-abbrev pub bare : List StatementLine → Register
-bare S = record { statements = S; objections = [] }
 
 -- the statement of a number marked unread, if it is listed
 abbrev pub unreadIf : ℕ → StatementLine → StatementLine

@@ -11,7 +11,7 @@ use Rattle.game.specs.Book.{Book}
 use Rattle.line.specs.Lines.{markNumber}
 use Rattle.line.specs.declared.StatementLine.{StatementLine}
 use Rattle.line.specs.declared.ObjectionLine.{ObjectionLine}
-use Rattle.text.specs.Register.{numbers, Issued}
+use Rattle.register.specs.Register.{numbers, Issued}
 use Rattle.mended.specs.TextLines.{TextLine, ObjectionAt}
 use Rattle.mended.specs.Mended.{mended, fates}
 use Rattle.mended.specs.Staying.{statementsStaying}

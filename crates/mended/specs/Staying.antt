@@ -10,7 +10,7 @@ use Rattle.line.specs.declared.Mark.the-variants.{Unread}
 use Rattle.line.specs.declared.StatementLine.{StatementLine}
 use Rattle.line.specs.declared.ObjectionLine.{ObjectionLine}
 use Rattle.line.specs.declared.Line.the-variants.{Statement, Objection}
-use Rattle.text.specs.Register.{Issued}
+use Rattle.register.specs.Register.{Issued}
 use Rattle.mended.specs.TextLines.{TextLine, good, spoiled, unended, StatementAt, ObjectionAt}
 use Rattle.mended.specs.Mended.{mended, fates}
 

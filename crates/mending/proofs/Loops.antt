@@ -9,13 +9,13 @@ use lib.Seq.{length-take-le, getD-take, getD-at, set-at, take-set-lt}
 use Rattle.index.specs.Indexed.{Indexed}
 use Rattle.line.specs.declared.StatementLine.{StatementLine}
 use Rattle.line.specs.declared.Line.the-variants.{Statement, Objection}
-use Rattle.text.specs.Register.{Register, Valid}
+use Rattle.register.specs.Register.{Register, Valid}
 use Rattle.text.specs.State.{Holds}
-use Rattle.text.proofs.Steps.{take-more}
+use Rattle.register.proofs.Steps.{empty-valid}
+use Rattle.text.proofs.Held.{take-more}
 use Rattle.mended.specs.TextLines.{TextLine, good, spoiled, unended, LinesOf}
 use Rattle.mended.specs.Mended.{withStatement, withObjection, withStatements, withObjections, lateAfter, listed, mended, fateOf, fatesFrom, fates}
 use Rattle.mended.proofs.Lines.{none-first, few-lines}
-use Rattle.mended.proofs.Valid.{empty-valid}
 use Rattle.settling.specs.Settled.{Stated}
 use Rattle.mending.specs.Passes.{firstFate, firstFates, laterFate, Passed, StatementPassed, ObjectionPassed, StatementsSettled, ObjectionsSettled}
 use Rattle.mending.specs.declared.StatementPass.{StatementPass}

@@ -1,24 +1,21 @@
 -- One line passed: what the rooms hold behind it.
 use mathlib.Core.Bool.{Bool, true, cond}
-use mathlib.Core.List.{List, []}
-use mathlib.Core.Path.{_≡_, refl, sym, ap, subst, _∙_}
+use mathlib.Core.List.{List}
+use mathlib.Core.Path.{_≡_, refl, sym, ap, _∙_}
 use Prim.Native.Nat.{ℕ, _+_, _≤_, _<_}
-use native.Mathlib.Omega.{arith}
 use lib.Dec.{eqb}
 use lib.ListN.{length, getD, drop, set}
 use lib.Seq.{set-getD}
-use borrow.Author.Tests.{eq-eqb, ne-eqb}
 use Rattle.line.specs.declared.StatementLine.{StatementLine}
 use Rattle.line.specs.declared.ObjectionLine.{ObjectionLine}
 use Rattle.line.specs.declared.Line.the-variants.{Statement, Objection}
-use Rattle.text.specs.Register.{Register, Valid}
+use Rattle.register.specs.Register.{Register, Valid}
 use Rattle.text.specs.State.{Holds}
 use Rattle.mended.specs.TextLines.{TextLine, good, spoiled, unended, LinesOf}
-use Rattle.mended.specs.Mended.{settleStatement, movedIf}
-use Rattle.mended.proofs.Staying.{dropped-anyway}
+use Rattle.mended.specs.Mended.{movedIf}
 use Rattle.settling.specs.Settled.{Stated, StatementSettled, ObjectionSettled}
 use Rattle.settling.proofs.Laws.{statement-stated, objection-held}
-use Rattle.mending.specs.Passes.{AnyLineAt, Passed, StatementPassed, ObjectionPassed}
+use Rattle.mending.specs.Passes.{AnyLineAt, StatementPassed, ObjectionPassed}
 use Rattle.mending.specs.declared.AnyLine.the-variants.{Good, Spoiled, Unended}
 use Rattle.mending.proofs.Reading.{pass-good, pass-spoiled, pass-unended}
 
@@ -45,33 +42,20 @@ module _ (s : List ℕ) (at : ℕ) (ls : List TextLine) (lines : LinesOf (drop a
     fates-are = refl;
   }
 
-  module _ (st : StatementLine) (next : ℕ) (g : AnyLineAt s at (Good (Statement st) next)) (nums-room : 1024 ≤ length nums)
-      (marks-room : 1024 ≤ length marks) (f : ℕ) (nums′ marks′ links′ : List ℕ)
-      (settled : StatementSettled nums marks n st f nums′ marks′ links′) where
-    now-stated : (f ≡ settleStatement S st .0) × Stated (settleStatement S st .1) (cond (eqb f 0) (n + 1) n) nums′ marks′ links′
-    now-stated = statement-stated S n nums marks links stated st (g .0) nums-room marks-room f nums′ marks′ links′ settled
-
-    pub past-kept : f ≡ 0 → (fate : ℕ) → fate ≡ movedIf late 0
-        → StatementPassed s at ls S late fates k (record { next = next; statements = n + 1; late = late }) nums′ marks′ links′
-        (set fates k fate)
-    past-kept z fate e = record {
-      line = good (Statement st);
-      passed = pass-good s at ls lines (Statement st) next g;
-      stated = rw (eq-eqb f 0 z) at (now-stated .1);
-      late-is = refl;
-      fates-are = ap (set fates k) (e ∙ ap (movedIf late) (sym z ∙ now-stated .0));
-    }
-
-    pub past-dropped : (f ≡ 0 → ⊥)
-        → StatementPassed s at ls S late fates k (record { next = next; statements = n; late = late }) nums′ marks′ links′
-        (set fates k f)
-    past-dropped z = record {
-      line = good (Statement st);
-      passed = pass-good s at ls lines (Statement st) next g;
-      stated = rw (ne-eqb f 0 z) at (now-stated .1);
-      late-is = refl;
-      fates-are = ap (set fates k) (sym (dropped-anyway late f (omega (arith, z))) ∙ ap (movedIf late) (now-stated .0));
-    }
+  pub past-statement : (st : StatementLine) (next : ℕ) → AnyLineAt s at (Good (Statement st) next) → 1024 ≤ length nums
+      → 1024 ≤ length marks → (f : ℕ) (nums′ marks′ links′ : List ℕ) → StatementSettled nums marks n st f nums′ marks′ links′
+      → (n′ fate : ℕ) → n′ ≡ cond (eqb f 0) (n + 1) n → fate ≡ movedIf late f
+      → StatementPassed s at ls S late fates k (record { next = next; statements = n′; late = late }) nums′ marks′ links′
+      (set fates k fate)
+  past-statement st next g a b f nums′ marks′ links′ settled n′ fate counted moved =
+      let (e, now-stated) = statement-stated S n nums marks links stated st (g .0) a b f nums′ marks′ links′ settled in
+      record {
+        line = good (Statement st);
+        passed = pass-good s at ls lines (Statement st) next g;
+        stated = rw counted now-stated;
+        late-is = refl;
+        fates-are = ap (set fates k) (moved ∙ ap (movedIf late) e);
+      }
 
 -- While objections are settled.
 module _ (s : List ℕ) (at : ℕ) (ls : List TextLine) (lines : LinesOf (drop at s) ls) (R : Register) (n m : ℕ)
@@ -103,15 +87,14 @@ module _ (s : List ℕ) (at : ℕ) (ls : List TextLine) (lines : LinesOf (drop a
 
   pub over-objection : (o : ObjectionLine) (next : ℕ) → AnyLineAt s at (Good (Objection o) next) → n ≤ length marks
       → 4096 ≤ length objectors → 4096 ≤ length targets → (f : ℕ) (marks′ objectors′ targets′ : List ℕ)
-      → ObjectionSettled nums marks objectors targets n m o f marks′ objectors′ targets′
-      → ObjectionPassed s at ls R n fates k (record { next = next; objections = cond (eqb f 0) (m + 1) m }) nums marks′ objectors′
-      targets′ (set fates k f)
-  over-objection o next g a b c f marks′ objectors′ targets′ settled =
+      → ObjectionSettled nums marks objectors targets n m o f marks′ objectors′ targets′ → (m′ : ℕ) → m′ ≡ cond (eqb f 0) (m + 1) m
+      → ObjectionPassed s at ls R n fates k (record { next = next; objections = m′ }) nums marks′ objectors′ targets′ (set fates k f)
+  over-objection o next g a b c f marks′ objectors′ targets′ settled m′ counted =
       let (e, v, held) = objection-held R n m nums marks objectors targets h valid o a b c f marks′ objectors′ targets′ settled in
       record {
         line = good (Objection o);
         passed = pass-good s at ls lines (Objection o) next g;
         valid = v;
-        holds = held;
+        holds = rw counted held;
         fates-are = ap (set fates k) e;
       }

@@ -11,7 +11,7 @@ use Rattle.line.specs.declared.StatementLine.{StatementLine}
 use Rattle.line.specs.declared.Line.{Line}
 use Rattle.line.specs.declared.Line.the-variants.{Statement, Objection}
 use Rattle.line.specs.declared.Got.the-variants.{Good as GoodLine}
-use Rattle.text.specs.Register.{Register, Valid}
+use Rattle.register.specs.Register.{Register, Valid}
 use Rattle.text.specs.State.{Holds}
 use Rattle.mended.specs.TextLines.{TextLine, good, spoiled, unended, Unbroken, LinesOf}
 use Rattle.mended.specs.Mended.{settleStatement, settleObjection, withStatement, withObjection, lateAfter, movedIf, listed, mended, fates}

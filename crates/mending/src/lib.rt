@@ -2,13 +2,15 @@
 // what is kept before it. What becomes of one line is left to `settling`, and writing the mended text to others.
 use line::Got;
 use line::Line;
+ghost use mathlib.Core.Bool.{cond};
 ghost use mathlib.Core.List.{List};
 ghost use mathlib.Core.Path.{_≡_};
-ghost use Prim.Native.Nat.{ℕ, _≤_, _<_};
+ghost use Prim.Native.Nat.{ℕ, _+_, _≤_, _<_};
+ghost use lib.Dec.{eqb};
 ghost use lib.ListN.{length, drop};
 ghost use Rattle.index.specs.Indexed.{Indexed};
 ghost use Rattle.line.specs.declared.StatementLine.{StatementLine};
-ghost use Rattle.text.specs.Register.{Register, Valid};
+ghost use Rattle.register.specs.Register.{Register, Valid};
 ghost use Rattle.text.specs.State.{Holds};
 ghost use Rattle.mended.specs.TextLines.{TextLine, LinesOf};
 ghost use Rattle.mended.specs.Mended.{movedIf};
@@ -71,11 +73,22 @@ fn any_line(text: &[u8], at: usize) -> AnyLine
     AnyLine::Unended
 }
 
-// The fate of a statement that is kept.
-fn kept_fate(late: bool) -> u8
-    ensures { λ r. ⌜ r ≡ movedIf late 0 ⌝ }
+// The fate of a statement line: one that is late and kept is moved.
+fn moved_if(late: bool, fate: u8) -> u8
+    ensures { λ r. ⌜ r ≡ movedIf late fate ⌝ }
 {
+    if fate != 0 {
+        return fate;
+    }
     if late { 4 } else { 0 }
+}
+
+// How many are kept behind a line that was settled with this fate.
+fn kept(n: usize, fate: u8) -> usize
+    requires { ⌜ n ≤ 4096 ⌝ }
+    ensures { λ r. ⌜ r ≡ cond (eqb fate 0) (n + 1) n ⌝ }
+{
+    if fate == 0 { n + 1 } else { n }
 }
 
 // Passes the line at a place while statements are settled, and puts its fate: that of an objection waits.
@@ -126,18 +139,10 @@ fn pass_statement(
             }
             Line::Statement(statement) => {
                 let fate = settling::settle_statement(numbers, marks, links, n, statement);
-                if fate == 0 {
-                    fates[k] = kept_fate(late);
-                    return StatementPass {
-                        next,
-                        statements: n + 1,
-                        late,
-                    };
-                }
-                fates[k] = fate;
+                fates[k] = moved_if(late, fate);
                 StatementPass {
                     next,
-                    statements: n,
+                    statements: kept(n, fate),
                     late,
                 }
             }
@@ -223,15 +228,9 @@ fn pass_objection(
                     objection,
                 );
                 fates[k] = fate;
-                if fate == 0 {
-                    return ObjectionPass {
-                        next,
-                        objections: m + 1,
-                    };
-                }
                 ObjectionPass {
                     next,
-                    objections: m,
+                    objections: kept(m, fate),
                 }
             }
         },

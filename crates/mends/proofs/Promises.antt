@@ -7,8 +7,8 @@ use mathlib.Core.Path.{_≡_, subst}
 use Prim.Native.Nat.{ℕ, _≤_, _<_}
 use native.Mathlib.Omega.{arith}
 use lib.ListN.{length, getD}
-use Rattle.text.specs.Register.{Register, written}
-use Rattle.text.specs.Reads.{Accepts}
+use Rattle.register.specs.Register.{Register, written}
+use Rattle.register.specs.Reads.{Accepts}
 use Rattle.mended.specs.TextLines.{TextLine, LinesOf}
 use Rattle.mended.specs.Mended.{listed, mended, fates}
 use Rattle.mended.proofs.Passes.{fates-counted}

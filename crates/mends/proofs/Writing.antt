@@ -6,9 +6,9 @@ use mathlib.Core.Path.{_≡_, refl, sym, ap, subst, _∙_}
 use Prim.Native.Nat.{ℕ, _*_, _≤_, _<_}
 use native.Mathlib.Omega.{arith}
 use lib.ListN.{length, getD, take, drop}
-use Rattle.text.specs.Register.{written}
+use Rattle.register.specs.Register.{written}
 use Rattle.text.specs.State.{Made}
-use Rattle.text.proofs.Order.{numbers-counted, marks-counted}
+use Rattle.register.proofs.Order.{numbers-counted, marks-counted}
 use Rattle.refusal.specs.declared.Refusal.the-variants.{Room}
 use Rattle.answer.specs.declared.Answer.{Answer}
 use Rattle.answer.specs.declared.Answer.the-variants.{Refused, Given}

@@ -5,7 +5,7 @@ use mathlib.Core.List.{List, _++_}
 use mathlib.Core.Path.{_≡_, refl}
 use Prim.Native.Nat.{ℕ}
 use lib.ListN.{length, drop}
-use Rattle.text.specs.Register.{Register}
+use Rattle.register.specs.Register.{Register}
 use Rattle.text.specs.declared.Reading.the-variants.{Whole}
 use Rattle.listing.specs.Listing.{IsListing}
 use Rattle.listing.proofs.Listing.{listing-short}

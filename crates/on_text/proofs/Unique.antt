@@ -4,7 +4,7 @@ use mathlib.Core.Path.{_≡_, ap}
 use Prim.Native.Nat.{ℕ}
 use native.Mathlib.Omega.{arith}
 use lib.ListN.{length}
-use Rattle.text.specs.Register.{Register}
+use Rattle.register.specs.Register.{Register}
 use Rattle.listing.proofs.Listing.{listing-once}
 use Rattle.answer.specs.Answer.{Short}
 use Rattle.answer.specs.declared.Answer.{Answer}

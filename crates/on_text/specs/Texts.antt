@@ -4,12 +4,12 @@ use mathlib.Core.Bool.{Bool, true, false}
 use mathlib.Core.List.{List}
 use Prim.Native.Nat.{ℕ, _≤_, _<_}
 use lib.ListN.{length}
-use Rattle.text.specs.Register.{Register}
+use Rattle.register.specs.Register.{Register}
 use Rattle.solved.specs.Solved.{TextRefuses}
 use Rattle.listing.specs.Listing.{IsListing}
 use Rattle.answer.specs.Answer.{Promised, Written, Short}
 use Rattle.answer.specs.declared.Answer.{Answer}
-use Rattle.text.specs.Reads.{Accepts}
+use Rattle.register.specs.Reads.{Accepts}
 
 -- the room holds the register's listing, n bytes; the room is shorter than that
 abbrev pub ListingIn : Register → List ℕ → ℕ → List ℕ → Type 0

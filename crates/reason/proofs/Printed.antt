@@ -8,9 +8,9 @@ use lib.ListN.{length, take}
 use Rattle.refusal.specs.Numbers.{numberOf, placeOf}
 use Rattle.refusal.specs.declared.Refusal.{Refusal}
 use Rattle.refusal.specs.declared.Refusal.the-variants.{Asked}
-use Rattle.text.specs.Register.{Register, Issued}
-use Rattle.text.specs.Reads.{Accepts}
-use Rattle.text.proofs.Unique as text
+use Rattle.register.specs.Register.{Register, Issued}
+use Rattle.register.specs.Reads.{Accepts}
+use Rattle.register.proofs.Unique as text
 use Rattle.rows.specs.Rows.{refusedRow}
 use Rattle.answer.specs.declared.Answer.{Answer}
 use Rattle.solved.specs.Solved.{TextRefuses, Places}

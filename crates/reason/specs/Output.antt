@@ -8,8 +8,8 @@ use Prim.Native.Nat.{ℕ}
 use Rattle.refusal.specs.Numbers.{numberOf, placeOf}
 use Rattle.refusal.specs.declared.Refusal.{Refusal}
 use Rattle.refusal.specs.declared.Refusal.the-variants.{Asked}
-use Rattle.text.specs.Register.{Register, Issued}
-use Rattle.text.specs.Reads.{Accepts, Refuses}
+use Rattle.register.specs.Register.{Register, Issued}
+use Rattle.register.specs.Reads.{Accepts, Refuses}
 use Rattle.solved.specs.Solved.{Places}
 use Rattle.rows.specs.Rows.{refusedRow}
 use Rattle.reasons.specs.Reasons.{IsReason}

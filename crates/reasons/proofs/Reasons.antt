@@ -12,9 +12,9 @@ use Rattle.game.specs.declared.Kind.the-variants.{Idle}
 use Rattle.game.proofs.Objection.{kind-unique}
 use Rattle.game.proofs.Verdict.{means-unique}
 use Rattle.reach.specs.Reach.{Chosen}
-use Rattle.text.specs.Register.{Register, Valid, numbers, marksOf, objectorsOf, targetsOf, book}
-use Rattle.text.specs.Reads.{Accepts}
-use Rattle.text.proofs.Order.{numbers-counted, marks-counted, objectors-counted}
+use Rattle.register.specs.Register.{Register, Valid, numbers, marksOf, objectorsOf, targetsOf, book}
+use Rattle.register.specs.Reads.{Accepts}
+use Rattle.register.proofs.Order.{numbers-counted, marks-counted, objectors-counted}
 use Rattle.alone.specs.Alone.{keep}
 use Rattle.alone.proofs.Keep.{keep-same, tests-same}
 use Rattle.answer.proofs.Promises.{through}

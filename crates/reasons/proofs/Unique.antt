@@ -2,8 +2,8 @@
 use mathlib.Core.List.{List}
 use mathlib.Core.Path.{_≡_, refl}
 use Prim.Native.Nat.{ℕ, _≤_, _<_}
-use Rattle.text.specs.Register.{Register, Issued}
-use Rattle.text.specs.Reads.{Accepts}
+use Rattle.register.specs.Register.{Register, Issued}
+use Rattle.register.specs.Reads.{Accepts}
 use Rattle.answer.specs.declared.Answer.{Answer}
 use Rattle.answer.proofs.Promises.{Exactly}
 use Rattle.solved.proofs.Lists.{asked-exactly, list-apart, list-unique}

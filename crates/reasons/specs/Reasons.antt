@@ -9,8 +9,8 @@ use Rattle.game.specs.Label.{Verdict, Means}
 use Rattle.game.specs.Objection.{OfKind}
 use Rattle.game.specs.declared.Kind.{Kind}
 use Rattle.game.specs.declared.Kind.the-variants.{Idle}
-use Rattle.text.specs.Register.{Register, numbers, Issued, objectorsOf, targetsOf, book}
-use Rattle.text.specs.Reads.{Accepts}
+use Rattle.register.specs.Register.{Register, numbers, Issued, objectorsOf, targetsOf, book}
+use Rattle.register.specs.Reads.{Accepts}
 use Rattle.alone.specs.Alone.{keep, Chooses}
 use Rattle.solved.specs.Solved.{TextRefuses, Places}
 use Rattle.rows.specs.Rows.{statementRow}

@@ -15,11 +15,12 @@ use Rattle.line.specs.Number.{IsNumber}
 use Rattle.line.specs.Lines.{markNumber}
 use Rattle.line.specs.declared.StatementLine.{StatementLine}
 use Rattle.line.specs.declared.ObjectionLine.{ObjectionLine}
-use Rattle.text.specs.Register.{Register, numbers, objectorNumbers, targetNumbers, placeOf, marksOf, Issued, Valid}
+use Rattle.register.specs.Register.{Register, bare, numbers, objectorNumbers, targetNumbers, placeOf, marksOf, Issued, Valid}
 use Rattle.text.specs.State.{Holds, At, Absent, Ends}
-use Rattle.text.proofs.Order.{numbers-counted, marks-counted}
-use Rattle.text.proofs.Steps.{on-register, off-register, place-is, stands-already, stands-nowhere, valid-statement, holds-statement, valid-objection, holds-objection}
-use Rattle.mended.specs.Mended.{bare, unreadIf, unread, settleStatement, settleObjection}
+use Rattle.register.proofs.Order.{numbers-counted, marks-counted}
+use Rattle.register.proofs.Steps.{valid-statement, valid-objection}
+use Rattle.text.proofs.Held.{on-register, off-register, place-is, stands-already, stands-nowhere, holds-statement, holds-objection}
+use Rattle.mended.specs.Mended.{unreadIf, unread, settleStatement, settleObjection}
 use Rattle.mended.proofs.Settling.{settles-second, settles-beyond, settles-new, settles-unknown, settles-repeat, settles-past, settles-kept}
 use Rattle.mended.proofs.Valid.{numbers-stay, valid-unread}
 use Rattle.settling.specs.Settled.{Stated, StatementSettled, Pair, NoPair, ObjectionSettled}

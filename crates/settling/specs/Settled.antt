@@ -9,9 +9,8 @@ use Rattle.index.specs.Indexed.{Indexed}
 use Rattle.line.specs.Lines.{markNumber}
 use Rattle.line.specs.declared.StatementLine.{StatementLine}
 use Rattle.line.specs.declared.ObjectionLine.{ObjectionLine}
-use Rattle.text.specs.Register.{Valid}
+use Rattle.register.specs.Register.{bare, Valid}
 use Rattle.text.specs.State.{Holds, Absent, At, Ends}
-use Rattle.mended.specs.Mended.{bare}
 
 -- the rooms begin with these n statements, and their numbers are indexed
 pub record Stated (S : List StatementLine) (n : ℕ) (nums marks links : List ℕ) : Type 0 where

@@ -4,11 +4,11 @@ use mathlib.Core.Path.{_≡_, _∙_}
 use Prim.Native.Nat.{ℕ}
 use native.Mathlib.Omega.{arith}
 use Rattle.game.specs.Book.{bookOf}
-use Rattle.text.specs.Register.{book}
+use Rattle.register.specs.Register.{book}
 use Rattle.text.specs.declared.Reading.{Reading}
 use Rattle.text.specs.declared.Reading.the-variants as reading
 use Rattle.text.specs.declared.Reading.the-variants.{Whole}
-use Rattle.text.proofs.Order.{marks-counted}
+use Rattle.register.proofs.Order.{marks-counted}
 use Rattle.sheet.specs.Parts.{LabelsOf}
 use Rattle.solved.specs.Solved.{SolvedText}
 use Rattle.solved.proofs.Rooms.{few-listed}

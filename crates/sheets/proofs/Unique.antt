@@ -7,8 +7,8 @@ use Prim.Native.Nat.{ℕ, _<_}
 use native.Mathlib.Omega.{arith}
 use lib.ListN.{length}
 use Rattle.game.specs.Book.{Book}
-use Rattle.text.specs.Register.{Register, book}
-use Rattle.text.specs.Reads.{Accepts, Refuses}
+use Rattle.register.specs.Register.{Register, book}
+use Rattle.register.specs.Reads.{Accepts, Refuses}
 use Rattle.refusal.specs.declared.Refusal.{Refusal}
 use Rattle.refusal.specs.declared.Refusal.the-variants.{Room, Sheet}
 use Rattle.answer.specs.Answer.{Begins, Short}

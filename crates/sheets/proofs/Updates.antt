@@ -8,10 +8,10 @@ use native.Mathlib.Omega.{arith}
 use lib.ListN.{length, getD, take, drop}
 use lib.Seq.{take-append-seam}
 use Rattle.game.specs.Book.{Book, Listed, bookOf}
-use Rattle.text.specs.Register.{Register, book}
-use Rattle.text.specs.Reads.{Accepts}
-use Rattle.text.proofs.Order.{marks-counted}
-use Rattle.text.proofs.Unique as text
+use Rattle.register.specs.Register.{Register, book}
+use Rattle.register.specs.Reads.{Accepts}
+use Rattle.register.proofs.Order.{marks-counted}
+use Rattle.register.proofs.Unique as text
 use Rattle.answer.specs.declared.Answer.the-variants.{Given}
 use Rattle.sheet.specs.Sheet.{codeAt, codes, total, IsSheet}
 use Rattle.sheet.proofs.Bytes.{byte-by-codes}

@@ -2,8 +2,8 @@
 -- the rooms then hold, `sheet_rooms` says; the labels are those of the book of the register that the text is the written form of.
 use mathlib.Core.List.{List}
 use Prim.Native.Nat.{ℕ, _≤_}
-use Rattle.text.specs.Register.{Register, book}
-use Rattle.text.specs.Reads.{Accepts, Refuses}
+use Rattle.register.specs.Register.{Register, book}
+use Rattle.register.specs.Reads.{Accepts, Refuses}
 use Rattle.text.specs.declared.Reading.{Reading}
 use Rattle.text.specs.declared.Reading.the-variants.{Whole, Refused}
 use Rattle.answer.specs.Answer.{Promised, Short}

@@ -9,9 +9,9 @@ use Rattle.game.specs.Book.{bookOf}
 use Rattle.game.specs.Find.{Found}
 use Rattle.chain.specs.Handed.{Handed}
 use Rattle.label.specs.Labelled.{Settled}
-use Rattle.text.specs.Register.{Register, Issued, book}
+use Rattle.register.specs.Register.{Register, Issued, book}
 use Rattle.text.specs.State.{Made}
-use Rattle.text.proofs.Order.{numbers-counted, marks-counted}
+use Rattle.register.proofs.Order.{numbers-counted, marks-counted}
 use Rattle.refusal.specs.declared.Refusal.the-variants.{Asked}
 use Rattle.answer.specs.Answer.{Asks}
 use Rattle.solved.specs.Solved.{Places, Ready}

@@ -6,9 +6,9 @@ use mathlib.Core.Path.{_≡_, sym, _∙_, subst}
 use Prim.Native.Nat.{ℕ, _<_}
 use native.Mathlib.Decide.{decLt}
 use native.Mathlib.Omega.{arith}
-use Rattle.text.specs.Register.{Register, Valid}
-use Rattle.text.specs.Reads.{Accepts, Refuses}
-use Rattle.text.proofs.Unique as text
+use Rattle.register.specs.Register.{Register, Valid}
+use Rattle.register.specs.Reads.{Accepts, Refuses}
+use Rattle.register.proofs.Unique as text
 use Rattle.refusal.specs.declared.Refusal.{Refusal}
 use Rattle.answer.specs.Answer.{Promised}
 use Rattle.answer.specs.declared.Answer.{Answer}

@@ -6,8 +6,8 @@ use mathlib.Core.Path.{_≡_, ap, subst}
 use Prim.Native.Nat.{ℕ, _≤_, _<_}
 use native.Mathlib.Omega.{arith}
 use lib.ListN.{length}
-use Rattle.text.specs.Register.{Register, Issued}
-use Rattle.text.specs.Reads.{Accepts, Refuses}
+use Rattle.register.specs.Register.{Register, Issued}
+use Rattle.register.specs.Reads.{Accepts, Refuses}
 use Rattle.refusal.specs.declared.Refusal.{Refusal}
 use Rattle.refusal.specs.declared.Refusal.the-variants.{Room, Asked, Turns}
 use Rattle.answer.specs.Answer.{Promised, Written, Asks}

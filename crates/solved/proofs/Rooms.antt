@@ -5,10 +5,10 @@ use native.Mathlib.Omega.{arith}
 use lib.ListN.{length, take}
 use Rattle.chain.specs.Handed.{Handed}
 use Rattle.label.specs.Labelled.{Solved}
-use Rattle.text.specs.Register.{Register, Valid, marksOf, objectorsOf, targetsOf}
+use Rattle.register.specs.Register.{Register, Valid, marksOf, objectorsOf, targetsOf}
 use Rattle.text.specs.State.{ReadsTo, Made}
 use Rattle.text.specs.declared.Reading.the-variants.{Whole}
-use Rattle.text.proofs.Order.{marks-counted, objectors-counted, register-in-order}
+use Rattle.register.proofs.Order.{marks-counted, objectors-counted, register-in-order}
 use Rattle.solved.specs.Solved.{SolvedText, Ready}
 
 pub register-handed : (R : Register) → Valid R → Handed (marksOf R) (objectorsOf R) (targetsOf R)

@@ -6,8 +6,8 @@ use mathlib.Core.Path.{_≡_}
 use Prim.Native.Nat.{ℕ, _≤_, _<_}
 use lib.ListN.{length, getD}
 use Rattle.label.specs.Labelled.{Labelled}
-use Rattle.text.specs.Register.{Register, numbers, book}
-use Rattle.text.specs.Reads.{Accepts, Refuses}
+use Rattle.register.specs.Register.{Register, numbers, book}
+use Rattle.register.specs.Reads.{Accepts, Refuses}
 use Rattle.text.specs.State.{Holds, Made}
 use Rattle.text.specs.declared.Reading.{Reading}
 use Rattle.text.specs.declared.Reading.the-variants.{Whole, Refused}

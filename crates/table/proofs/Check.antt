@@ -25,8 +25,8 @@ use Rattle.game.proofs.Objection.{never-occurs}
 use Rattle.game.proofs.Reason.{counts, belonging, reaching, within-exactly}
 use Rattle.line.specs.Number.{decimal, decimalIn}
 use Rattle.line.specs.declared.Mark.the-variants.{Read, Unread}
-use Rattle.text.specs.Register.{Register, Issued, Valid, numbers, objectorNumbers, targetNumbers, objectorsOf, targetsOf, marksOf, book, written, bytes, placeOf}
-use Rattle.text.proofs.Order.{marks-counted, objectors-counted, register-in-order}
+use Rattle.register.specs.Register.{Register, Issued, Valid, numbers, objectorNumbers, targetNumbers, objectorsOf, targetsOf, marksOf, book, written, bytes, placeOf}
+use Rattle.register.proofs.Order.{marks-counted, objectors-counted, register-in-order}
 use Rattle.rows.specs.Rows.{numbersRow, statementRow, objectionRow}
 use Rattle.listing.specs.Listing.{statementRows, objectionRows, listing, IsListing}
 use Rattle.listing.specs.Parts.{orIdle}
@@ -36,7 +36,7 @@ use Rattle.sheet.specs.Sheet.{codeAt, bytesFor, total, IsSheet}
 use Rattle.sheet.proofs.Bytes.{code-beyond}
 use Rattle.reasons.specs.Reasons.{IsReason}
 use Rattle.table.specs.Table.{Row, lists, finishes, explains, packs, totalsOf, Says, Every, ascii, table, reasons, sheets}
-use Rattle.text.specs.Reads.{Accepts}
+use Rattle.register.specs.Reads.{Accepts}
 
 -- The guess: fields end at bytes up to 10, and a line has three.
 extend : ℕ → List (List ℕ) → List (List ℕ)

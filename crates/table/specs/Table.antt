@@ -8,12 +8,12 @@ use Prim.Native.Nat.{ℕ}
 use Prim.Native.Char.{code}
 use Prim.Native.String.{String, [] as ended, _∷_ as _then_}
 use Rattle.game.specs.Finish.{Finish}
-use Rattle.text.specs.Register.{Register, book}
+use Rattle.register.specs.Register.{Register, book}
 use Rattle.sheet.specs.Sheet.{total, IsSheet}
 use Rattle.solved.specs.Solved.{Places}
 use Rattle.listing.specs.Listing.{IsListing}
 use Rattle.reasons.specs.Reasons.{IsReason}
-use Rattle.text.specs.Reads.{Accepts}
+use Rattle.register.specs.Reads.{Accepts}
 
 -- the bytes of a text as it is typed here: `\t` is byte 9, `\n` byte 10
 unfoldable pub ascii : String → List ℕ

@@ -1,5 +1,2 @@
-pub mod Steps
-pub mod Unique
+pub mod Held
 pub mod Reader
-pub mod Order
-pub mod Settled

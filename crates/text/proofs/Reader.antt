@@ -4,7 +4,6 @@ use mathlib.Core.List.{List, [], _∷_, _++_, append-assoc}
 use mathlib.Core.Logic.{_⊎_, inl, inr}
 use mathlib.Core.Path.{_≡_, refl, sym, ap, _∙_, subst, subst₂}
 use Prim.Native.Nat.{ℕ, _+_, _≤_, _<_}
-use native.Mathlib.Nat.{not-suc-le-zero}
 use native.Mathlib.Omega.{arith}
 use lib.ListN.{length, getD, drop, set, length-drop}
 use Rattle.line.specs.Lines.{lineBytes, markNumber, BeginsWith, GotAt}
@@ -15,12 +14,13 @@ use Rattle.line.specs.declared.Line.the-variants.{Statement, Objection}
 use Rattle.line.specs.declared.Got.the-variants.{Good}
 use Rattle.refusal.specs.declared.Refusal.{Refusal}
 use Rattle.refusal.specs.declared.Refusal.the-variants.{Spoiled}
-use Rattle.text.specs.Register.{Register, Valid, written, bytes, Issued as OnRegister}
+use Rattle.register.specs.Register.{Register, bare, Valid, written, bytes, Issued as OnRegister}
 use Rattle.text.specs.State.{Holds, ReadsTo, StatementTaken, ObjectionTaken}
 use Rattle.text.specs.declared.Reading.the-variants.{Whole}
 use Rattle.text.specs.declared.Taken.the-variants.{Kept, AtFault}
-use Rattle.text.proofs.Steps.{bare, with-statement, with-objection, no-objections, written-statement, written-objection, on-register, off-register, place-is, stands-already, stands-nowhere, valid-statement, holds-statement, valid-objection, holds-objection}
-use Rattle.text.specs.Reads.{NotEnded, Reached, Refuses}
+use Rattle.register.proofs.Steps.{empty-valid, with-statement, with-objection, no-objections, written-statement, written-objection, valid-statement, valid-objection}
+use Rattle.text.proofs.Held.{on-register, off-register, place-is, stands-already, stands-nowhere, holds-statement, holds-objection}
+use Rattle.register.specs.Reads.{NotEnded, Reached, Refuses}
 
 pub record Inv (s : List ℕ) (at n m : ℕ) (nums marks objectors targets : List ℕ) : Type 0 where
   pub register : Register
@@ -33,14 +33,7 @@ pub start : (s nums marks objectors targets : List ℕ) → Inv s 0 0 0 nums mar
 unfolding bytes
 start s nums marks objectors targets = record {
   register = bare [];
-  valid = record {
-    few-statements = omega arith;
-    few-objections = omega arith;
-    numbered = λ i h. absurd (not-suc-le-zero h);
-    once = λ i j h k. absurd (not-suc-le-zero k);
-    known = λ k h. absurd (not-suc-le-zero h);
-    distinct = λ j k h i. absurd (not-suc-le-zero i);
-  };
+  valid = empty-valid;
   holds =
       record {
         statements = refl;

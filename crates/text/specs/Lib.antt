@@ -1,3 +1,1 @@
-pub mod Register
-pub mod Reads
 pub mod State

@@ -9,12 +9,12 @@ use Rattle.line.specs.Lines.{markNumber}
 use Rattle.line.specs.declared.StatementLine.{StatementLine}
 use Rattle.line.specs.declared.ObjectionLine.{ObjectionLine}
 use Rattle.refusal.specs.declared.Refusal.the-variants.{Late, Issued, Statements, Unknown, Repeated, Objections}
-use Rattle.text.specs.Register.{Register, Valid, numbers, marksOf, objectorsOf, targetsOf}
+use Rattle.register.specs.Register.{Register, Valid, numbers, marksOf, objectorsOf, targetsOf}
 use Rattle.text.specs.declared.Reading.{Reading}
 use Rattle.text.specs.declared.Reading.the-variants.{Whole, Refused}
 use Rattle.text.specs.declared.Taken.{Taken}
 use Rattle.text.specs.declared.Taken.the-variants.{Kept, AtFault}
-use Rattle.text.specs.Reads.{Accepts, Refuses}
+use Rattle.register.specs.Reads.{Accepts, Refuses}
 
 -- The rooms begin with the register's n statements and m objections: numbers and marks in listed order, objectors and
 -- targets by place, in the order of the lines.

@@ -11,7 +11,7 @@ ghost use Prim.Native.Nat.{_+_, _<_, _≤_};
 ghost use lib.ListN.{length, getD};
 ghost use Rattle.game.specs.Find.{Found};
 ghost use Rattle.index.specs.Indexed.{Indexed};
-ghost use Rattle.text.specs.Reads.{NotEnded};
+ghost use Rattle.register.specs.Reads.{NotEnded};
 ghost use Rattle.text.specs.State.{Spacious, ReadsTo, StatementTaken, ObjectionTaken, InStep};
 
 // The number of statements and of objections, now in the rooms.

@@ -2,7 +2,7 @@
 use mathlib.Core.Path.{sym}
 use native.Mathlib.Omega.{arith}
 use Rattle.label.proofs.Parts.{part-length}
-use Rattle.text.specs.Register.{Issued}
+use Rattle.register.specs.Register.{Issued}
 use Rattle.answer.specs.Answer.{Asks}
 use Rattle.asking.specs.Asking.{ExerciseIn}
 use Rattle.solved.proofs.Laws.{text-promised}

@@ -1,7 +1,6 @@
 -- `pass_objection`: a line of each kind; only an objection is settled.
 use mathlib.Core.Path.{_∙_, ap}
 use native.Mathlib.Omega.{arith}
-use borrow.Author.Tests.{eq-eqb, ne-eqb}
 use Rattle.line.specs.declared.Line.{Line}
 use Rattle.mending.specs.declared.AnyLine.the-variants.{Good}
 use Rattle.mending.proofs.Passing.{over-unended, over-spoiled, over-statement, over-objection}
@@ -9,6 +8,7 @@ use borrow.Author.Needs.{needs}
 use Rattle.mending.proofs.pass_objection.Statement.{statement}
 use Rattle.mending.proofs.pass_objection.Tie as tie
 use Rattle.mending.proofs.any_line.Reads as any-line-reads
+use Rattle.mending.proofs.kept.Reads as kept-reads
 use Rattle.settling.proofs.settle_objection.Reads as settle-objection-reads
 
 any-line-requires : tie.Need-any-line-requires
@@ -35,8 +35,36 @@ settle-objection-requires c κs = search needs
 slice-write-fates : tie.Need-slice-write-fates
 slice-write-fates c = search needs
 
-add-t29 : tie.Need-add-t29
-add-t29 c = search needs
+kept-requires : tie.Need-kept-requires
+kept-requires c κs = search needs
+
+returns : tie.Need-returns
+returns c =
+    let read = c .before .before in
+    let args = read .before .before .before .before .before .before .before .before .args in
+    let pre = read .before .before .before .before .before .before .before .before .pre in
+    λ ls R lines valid holds. over-unended (args .text .now) (args .at) ls lines R (args .n) (args .m) (args .numbers .now)
+    (args .marks .now) (args .objectors .now) (args .targets .now) holds valid (args .fates .now) (args .k) (pre .0 .0)
+    (rw (c .enum-told .given .1) at (read .any-line .ensures))
+
+returns-2 : tie.Need-returns-2
+returns-2 c =
+    let next = c .before .next in
+    let read = c .before .before .before in
+    let args = read .before .before .before .before .before .before .before .before .args in
+    λ ls R lines valid holds. over-spoiled (args .text .now) (args .at) ls lines R (args .n) (args .m) (args .numbers .now)
+    (args .marks .now) (args .objectors .now) (args .targets .now) holds valid (args .fates .now) (args .k) (next .given .0 .0)
+    (rw (next .given .1) at (read .any-line .ensures))
+
+returns-3 : tie.Need-returns-3
+returns-3 c =
+    let told = c .enum-told2 in
+    let line = c .before .before .before .line in
+    let read = c .before .before .before .before .before in
+    let args = read .before .before .before .before .before .before .before .before .args in
+    λ ls R lines valid holds. over-statement (args .text .now) (args .at) ls lines R (args .n) (args .m) (args .numbers .now)
+    (args .marks .now) (args .objectors .now) (args .targets .now) holds valid (args .fates .now) (args .k) (told .given .0 .0) (line .given .0 .1 .0)
+    (rw (line .given .1 ∙ ap (λ (l : Line). Good l (line .given .0 .1 .0)) (told .given .1)) at (read .any-line .ensures))
 
 same-length : tie.Need-same-length
 same-length c = search needs
@@ -50,68 +78,20 @@ same-length-3 c = search needs
 same-length-4 : tie.Need-same-length-4
 same-length-4 c = search needs
 
-returns : tie.Need-returns
-returns c =
-    let settle-objection = c .before .before .before .before .before .before .before .settle-objection in
-    let args = c .before .before .before .before .before .before .before .before .before .before .before .before .before .before .before .before .before .before .before .before .before .before .before .before .before .args in
-    let line2 = c .before .before .before .before .before .before .before .before .before .before .before .before .line2 in
-    let line = c .before .before .before .before .before .before .before .before .before .before .before .before .before .before .before .line in
-    let any-line = c .before .before .before .before .before .before .before .before .before .before .before .before .before .before .before .before .before .any-line in
-    let pre = c .before .before .before .before .before .before .before .before .before .before .before .before .before .before .before .before .before .before .before .before .before .before .before .before .before .pre in
-    λ ls R lines valid holds. rw (eq-eqb (settle-objection .result) 0 (c .if1 .taken)) at (over-objection (args .text .now) (args .at) ls lines R (args .n) (args .m)
-    (args .numbers .now) (args .marks .now) (args .objectors .now) (args .targets .now) holds valid (args .fates .now) (args .k) (line2 .given .0 .0) (line .given .0 .1 .0)
-    (rw (line .given .1 ∙ ap (λ (l : Line). Good l (line .given .0 .1 .0)) (line2 .given .1)) at (any-line .ensures))
-    (omega (arith, pre .0 .2, pre .0 .4)) (pre .1 .0 .0) (pre .1 .0 .1) (settle-objection .result) _ _ _ (settle-objection .ensures))
-
-returns-2 : tie.Need-returns-2
-returns-2 c =
-    let args = c .before .before .before .before .before .before .before .before .before .before .args in
-    let pre = c .before .before .before .before .before .before .before .before .before .before .pre in
-    λ ls R lines valid holds. over-unended (args .text .now) (args .at) ls lines R (args .n) (args .m)
-    (args .numbers .now) (args .marks .now) (args .objectors .now) (args .targets .now) holds valid (args .fates .now) (args .k) (pre .0 .0) (rw (c .enum-told .given .1) at (c .before .before .any-line .ensures))
-
-returns-3 : tie.Need-returns-3
-returns-3 c =
-    let args = c .before .before .before .before .before .before .before .before .before .before .before .args in
-    let next = c .before .next in
-    let any-line = c .before .before .before .any-line in
-    λ ls R lines valid holds. over-spoiled (args .text .now) (args .at) ls lines R (args .n) (args .m)
-    (args .numbers .now) (args .marks .now) (args .objectors .now) (args .targets .now) holds valid (args .fates .now) (args .k) (next .given .0 .0) (rw (next .given .1) at (any-line .ensures))
-
 returns-4 : tie.Need-returns-4
 returns-4 c =
-    let args = c .before .before .before .before .before .before .before .before .before .before .before .before .before .args in
-    let enum-told2 = c .enum-told2 in
-    let line = c .before .before .before .line in
-    let any-line = c .before .before .before .before .before .any-line in
-    λ ls R lines valid holds. over-statement (args .text .now) (args .at) ls lines R (args .n) (args .m)
-    (args .numbers .now) (args .marks .now) (args .objectors .now) (args .targets .now) holds valid (args .fates .now) (args .k) (enum-told2 .given .0 .0) (line .given .0 .1 .0)
-    (rw (line .given .1 ∙ ap (λ (l : Line). Good l (line .given .0 .1 .0)) (enum-told2 .given .1)) at (any-line .ensures))
-
-same-length-5 : tie.Need-same-length-5
-same-length-5 c = search needs
-
-same-length-6 : tie.Need-same-length-6
-same-length-6 c = search needs
-
-same-length-7 : tie.Need-same-length-7
-same-length-7 c = search needs
-
-same-length-8 : tie.Need-same-length-8
-same-length-8 c = search needs
-
-returns-5 : tie.Need-returns-5
-returns-5 c =
-    let settle-objection = c .before .before .before .before .before .before .before .settle-objection in
-    let args = c .before .before .before .before .before .before .before .before .before .before .before .before .before .before .before .before .before .before .before .before .before .before .before .before .before .args in
-    let line2 = c .before .before .before .before .before .before .before .before .before .before .before .before .line2 in
-    let line = c .before .before .before .before .before .before .before .before .before .before .before .before .before .before .before .line in
-    let any-line = c .before .before .before .before .before .before .before .before .before .before .before .before .before .before .before .before .before .any-line in
-    let pre = c .before .before .before .before .before .before .before .before .before .before .before .before .before .before .before .before .before .before .before .before .before .before .before .before .before .pre in
-    λ ls R lines valid holds. rw (ne-eqb (settle-objection .result) 0 (c .if1 .left)) at (over-objection (args .text .now) (args .at) ls lines R (args .n) (args .m)
-    (args .numbers .now) (args .marks .now) (args .objectors .now) (args .targets .now) holds valid (args .fates .now) (args .k) (line2 .given .0 .0) (line .given .0 .1 .0)
-    (rw (line .given .1 ∙ ap (λ (l : Line). Good l (line .given .0 .1 .0)) (line2 .given .1)) at (any-line .ensures))
-    (omega (arith, pre .0 .2, pre .0 .4)) (pre .1 .0 .0) (pre .1 .0 .1) (settle-objection .result) _ _ _ (settle-objection .ensures))
+    let settled = c .before .before .before .before .before .before .before in
+    let settle = settled .settle-objection in
+    let told = settled .before .before .before .before .before in
+    let line = told .before .before .before .line in
+    let read = told .before .before .before .before .before in
+    let args = read .before .before .before .before .before .before .before .before .args in
+    let pre = read .before .before .before .before .before .before .before .before .pre in
+    λ ls R lines valid holds. over-objection (args .text .now) (args .at) ls lines R (args .n) (args .m) (args .numbers .now)
+    (args .marks .now) (args .objectors .now) (args .targets .now) holds valid (args .fates .now) (args .k) (told .line2 .given .0 .0) (line .given .0 .1 .0)
+    (rw (line .given .1 ∙ ap (λ (l : Line). Good l (line .given .0 .1 .0)) (told .line2 .given .1)) at (read .any-line .ensures))
+    (omega (arith, pre .0 .2, pre .0 .4)) (pre .1 .0 .0) (pre .1 .0 .1) (settle .result) _ _ _ (settle .ensures) (c .kept .result)
+    (c .kept .ensures)
 
 pub pass-objection-spec : {M : Type 1} → statement M
 pass-objection-spec =
@@ -125,17 +105,12 @@ pass-objection-spec =
     enum-known-line-2
     settle-objection-requires
     slice-write-fates
-    add-t29
+    kept-requires
+    returns
+    returns-2
+    returns-3
     same-length
     same-length-2
     same-length-3
     same-length-4
-    returns
-    returns-2
-    returns-3
-    returns-4
-    same-length-5
-    same-length-6
-    same-length-7
-    same-length-8
-    returns-5)
+    returns-4)

@@ -13,7 +13,7 @@ use Rattle.line.specs.declared.Mark.{Mark}
 use Rattle.line.specs.declared.Mark.the-variants.{Read, Unread}
 use Rattle.line.specs.declared.StatementLine.{StatementLine}
 use Rattle.line.specs.declared.ObjectionLine.{ObjectionLine}
-use Rattle.text.specs.Register.{Register, numbers, objectorNumbers, targetNumbers, Issued, Valid, pick, placeOf, marksOf, objectorsOf, targetsOf}
+use Rattle.register.specs.Register.{Register, numbers, objectorNumbers, targetNumbers, Issued, Valid, pick, placeOf, marksOf, objectorsOf, targetsOf}
 use borrow.Author.Tests.{eq-eqb, ne-eqb}
 
 -- a number that is there has its place among the others

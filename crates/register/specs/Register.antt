@@ -18,6 +18,10 @@ pub record Register : Type 0 where
   pub statements : List StatementLine
   pub objections : List ObjectionLine
 
+-- the register of some statements and no objections
+abbrev pub bare : List StatementLine → Register
+bare S = record { statements = S; objections = [] }
+
 -- the numbers of the statements, in listed order; of the objectors and targets, in the order of the lines
 abbrev pub numbers : Register → List ℕ
 numbers R = map (λ (st : StatementLine). st .number) (R .statements)

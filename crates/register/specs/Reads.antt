@@ -12,7 +12,7 @@ use Rattle.line.specs.declared.Line.{Line}
 use Rattle.line.specs.declared.Line.the-variants.{Statement, Objection}
 use Rattle.refusal.specs.declared.Refusal.{Refusal}
 use Rattle.refusal.specs.declared.Refusal.the-variants.{TooLong, Unended, Spoiled, Late, Issued, Statements, Unknown, Repeated, Objections, Room, Unequal, Mark, Place, Asked, Turns, Sheet}
-use Rattle.text.specs.Register.{Register, Valid, written, Issued as OnRegister, Has}
+use Rattle.register.specs.Register.{Register, Valid, written, Issued as OnRegister, Has}
 
 -- "At most 65,535 bytes, 1,024 statements, 4,096 objections."
 pub record Accepts (s : List ℕ) (R : Register) : Type 0 where

@@ -17,9 +17,9 @@ use Rattle.line.specs.declared.Line.{Line}
 use Rattle.line.specs.declared.Line.the-variants.{Statement, Objection}
 use Rattle.refusal.specs.declared.Refusal.{Refusal}
 use Rattle.refusal.specs.declared.Refusal.the-variants.{TooLong, Unended, Spoiled, Late, Issued, Statements, Unknown, Repeated, Objections}
-use Rattle.text.specs.Register.{Register, Valid, numbers, objectorNumbers, targetNumbers, written, bytes, Issued as OnRegister, Has}
-use Rattle.text.proofs.Steps.{bare, with-statement, with-objection, no-objections, written-statement, written-objection, valid-statement, valid-objection}
-use Rattle.text.specs.Reads.{Accepts, NotEnded, Reached, Refuses}
+use Rattle.register.specs.Register.{Register, bare, Valid, numbers, objectorNumbers, targetNumbers, written, bytes, Issued as OnRegister, Has}
+use Rattle.register.proofs.Steps.{empty-valid, with-statement, with-objection, no-objections, written-statement, written-objection, valid-statement, valid-objection}
+use Rattle.register.specs.Reads.{Accepts, NotEnded, Reached, Refuses}
 
 -- it holds, or it does not
 abbrev pub Settles : Type 0 → Type 0
@@ -204,20 +204,6 @@ module _ (s : List ℕ) (fits : length s ≤ 65535) (ended : ¬ NotEnded s) wher
   settle zero R rest h v e = step R rest v e (λ Q left l w f. absurd (omega arith))
   settle (suc n) R rest h v e = step R rest v e (λ Q left l w f. settle n Q left (omega arith) w f)
 
-empty : Register
-empty = bare []
-
-empty-valid : Valid empty
-unfolding empty
-empty-valid = record {
-  few-statements = omega arith;
-  few-objections = omega arith;
-  numbered = λ i h. absurd (omega arith);
-  once = λ i j h k. absurd (omega arith);
-  known = λ k h. absurd (omega arith);
-  distinct = λ j k h i. absurd (omega arith);
-}
-
 ended? : (s : List ℕ) → Settles (NotEnded s)
 ended? s = both? (less? 0 (length s)) (differ (same? (getD s (length s - 1) 0) 10))
   where
@@ -227,13 +213,13 @@ ended? s = both? (less? 0 (length s)) (differ (same? (getD s (length s - 1) 0) 1
 
 -- Every text is accepted or refused.
 pub settled : (s : List ℕ) → Settled s
-unfolding empty bytes
+unfolding bytes
 settled s = go (less? 65535 (length s)) (ended? s)
   where
     go : Settles (65535 < length s) → Settles (NotEnded s) → Settled s
     go (inl long) q = inr (TooLong, long)
     go (inr short) (inl q) = inr (Unended, (omega arith, q))
-    go (inr short) (inr q) = settle s (omega arith) q (length s) empty s (omega arith) empty-valid written-empty
+    go (inr short) (inr q) = settle s (omega arith) q (length s) (bare []) s (omega arith) empty-valid written-empty
       where
         written-empty : s ≡ written (bare []) ++ s
         written-empty = refl

@@ -1,28 +1,22 @@
--- One line more: what the rooms hold, what is written and what is in order, with a statement or an objection added.
+-- One line more: what is written and what is in order, with a statement or an objection added.
 use mathlib.Core.List.{List, [], _∷_, _++_, append-assoc, map, map-append}
 use mathlib.Core.Logic.{_⊎_, inl, inr}
 use mathlib.Core.Path.{_≡_, refl, sym, ap, _∙_}
 use Prim.Native.Nat.{ℕ, _+_, _<_}
 use native.Mathlib.Nat.{not-suc-le-zero}
 use native.Mathlib.Decide.{decLt}
-use native.Mathlib.Numerals.{add-one}
 use native.Mathlib.Omega.{arith}
-use lib.ListN.{length, getD, take, set, length-append, length-map, List·getD-append}
-use lib.Seq.{getD-append-add, take-suc-set, getD-take}
+use lib.ListN.{length, getD, length-append, length-map, List·getD-append}
+use lib.Seq.{getD-append-add}
 use Rattle.line.specs.Number.{IsNumber}
-use Rattle.line.specs.Lines.{lineBytes, markNumber}
+use Rattle.line.specs.Lines.{lineBytes}
 use Rattle.line.specs.declared.StatementLine.{StatementLine}
 use Rattle.line.specs.declared.ObjectionLine.{ObjectionLine}
 use Rattle.line.specs.declared.Line.{Line}
 use Rattle.line.specs.declared.Line.the-variants.{Statement, Objection}
-use Rattle.text.specs.Register.{Register, numbers, objectorNumbers, targetNumbers, Issued, Has, Valid, lines, bytes, written, placeOf}
-use Rattle.text.specs.State.{Holds, At, Absent, Ends}
-use Rattle.text.proofs.Order.{mapped, place-holds, place-first}
+use Rattle.register.specs.Register.{Register, bare, numbers, objectorNumbers, targetNumbers, Issued, Has, Valid, lines, bytes, written}
 
--- a register with no objections, one statement more, and one objection more
-abbrev pub bare : List StatementLine → Register
-bare S = record { statements = S; objections = [] }
-
+-- one statement more, and one objection more
 abbrev pub with-statement : List StatementLine → StatementLine → Register
 with-statement S st = bare (S ++ (st ∷ []))
 
@@ -53,10 +47,6 @@ old-or-last l v k h = go (decLt k (length l))
         ⊎ ((k ≡ length l) × (getD (l ++ (v ∷ [])) k 0 ≡ v))
     go (yes p) = inl (p, List·getD-append l (v ∷ []) 0 k p)
     go (no p) = let e : k ≡ length l = omega (arith, longer l v) in inr (e, ap (λ j. getD (l ++ (v ∷ [])) j 0) e ∙ last l v)
-
--- a room's beginning, with one entry more
-pub take-more : (room : List ℕ) (n v : ℕ) → n < length room → take (n + 1) (set room n v) ≡ take n room ++ (v ∷ [])
-take-more room n v h = rw add-one (take-suc-set room n v h)
 
 -- What is written.
 pub bytes-append : (ls ms : List Line) → bytes (ls ++ ms) ≡ bytes ls ++ bytes ms
@@ -94,78 +84,29 @@ written-objection R o =
     ∙ ap bytes (sym (append-assoc (map Statement (R .statements)) (map Objection (R .objections)) (Objection o ∷ [])))
     ∙ bytes-append (lines R) (Objection o ∷ []) ∙ ap (λ u. bytes (lines R) ++ u) (one-line (Objection o))
 
--- A number is on the register exactly where it stands among the first n of the room.
-module _ (R : Register) (n m : ℕ) (nums marks objectors targets : List ℕ) (h : Holds R n m nums marks objectors targets) where
-  counted : length (numbers R) ≡ n
-  counted = length-map (R .statements) (λ (st : StatementLine). st .number) ∙ h .statements
-
-  number-at : (i : ℕ) → i < n → getD (numbers R) i 0 ≡ getD nums i 0
-  number-at i l = ap (λ ns. getD ns i 0) (sym (h .numbers-are)) ∙ getD-take n nums i 0 l
-
-  pub on-register : (v i : ℕ) → At nums n v i → Issued R v
-  on-register v i (l, e) = (i, omega (arith, counted), number-at i l ∙ e)
-
-  pub off-register : (v : ℕ) → Absent nums n v → ¬ Issued R v
-  off-register v f (i, l, e) = let k : i < n = omega (arith, counted) in f i k (sym (number-at i k) ∙ e)
-
-  pub place-is : (v y : ℕ) → At nums n v y → Absent nums y v → placeOf (numbers R) v ≡ y
-  place-is v y (l, e) f =
-      place-first (numbers R) v y (omega (arith, counted)) (number-at y l ∙ e)
-      (λ i k q. f i k (sym (number-at i (omega arith)) ∙ q))
-
-  -- the entries of the objections' rooms are the places of their numbers
-  entry-at : (nos room : List ℕ) → take m room ≡ map (placeOf (numbers R)) nos → length nos ≡ m → (j : ℕ) → j < m
-      → getD room j 0 ≡ placeOf (numbers R) (getD nos j 0)
-  entry-at nos room e c j l = sym (getD-take m room j 0 l) ∙ ap (λ u. getD u j 0) e ∙ mapped (placeOf (numbers R)) nos j (omega arith)
-
-  objectors-counted : length (objectorNumbers R) ≡ m
-  objectors-counted = length-map (R .objections) (λ (o : ObjectionLine). o .objector) ∙ h .objections
-
-  targets-counted : length (targetNumbers R) ≡ m
-  targets-counted = length-map (R .objections) (λ (o : ObjectionLine). o .target) ∙ h .objections
-
-  pub objector-entry : (j : ℕ) → j < m → getD objectors j 0 ≡ placeOf (numbers R) (getD (objectorNumbers R) j 0)
-  objector-entry = entry-at (objectorNumbers R) objectors (h .objectors-are) objectors-counted
-
-  pub target-entry : (j : ℕ) → j < m → getD targets j 0 ≡ placeOf (numbers R) (getD (targetNumbers R) j 0)
-  target-entry = entry-at (targetNumbers R) targets (h .targets-are) targets-counted
-
-  -- an entry that is the place y is that of the number that stands there
-  same-number : (u v y j : ℕ) → Issued R u → At nums n v y → placeOf (numbers R) u ≡ y → u ≡ v
-  same-number u v y j (i, l, e) (k, q) p =
-      sym (place-holds (numbers R) u i l e) ∙ ap (λ a. getD (numbers R) a 0) p ∙ number-at y k ∙ q
-
-  module _ (valid : Valid R) (o : ObjectionLine) (y x : ℕ) (ends : Ends nums n o y x) where
-    -- the objection stands on the register exactly where its places stand in the rooms
-    pub stands-already : (j : ℕ) → j < m → getD objectors j 0 ≡ y → getD targets j 0 ≡ x → Has R (o .objector) (o .target)
-    stands-already j l a b =
-        let (p, q) = valid .known j (omega (arith, h .objections)) in (
-          j,
-          omega (arith, h .objections),
-          same-number (getD (objectorNumbers R) j 0) (o .objector) y j p (ends .objector)
-              (sym (objector-entry j l) ∙ a),
-          same-number (getD (targetNumbers R) j 0) (o .target) x j q (ends .target)
-              (sym (target-entry j l) ∙ b),
-        )
-
-    pub stands-nowhere : ((j : ℕ) → j < m → getD objectors j 0 ≡ y → getD targets j 0 ≡ x → ⊥) → ¬ Has R (o .objector) (o .target)
-    stands-nowhere f (k, l, a, b) =
-        let i : k < m = omega (arith, h .objections) in
-        f k i (objector-entry k i ∙ ap (placeOf (numbers R)) a ∙ place-is (o .objector) y (ends .objector) (ends .objector-first))
-        (target-entry k i ∙ ap (placeOf (numbers R)) b ∙ place-is (o .target) x (ends .target) (ends .target-first))
+-- The empty register is in order.
+pub empty-valid : Valid (bare [])
+empty-valid = record {
+  few-statements = omega arith;
+  few-objections = omega arith;
+  numbered = λ i h. absurd (not-suc-le-zero h);
+  once = λ i j h k. absurd (not-suc-le-zero k);
+  known = λ k h. absurd (not-suc-le-zero h);
+  distinct = λ j k h i. absurd (not-suc-le-zero i);
+}
 
 -- One statement more, after which nothing is at fault that was not before.
 module _ (S : List StatementLine) (st : StatementLine) where
-  names : numbers (with-statement S st) ≡ numbers (bare S) ++ (st .number ∷ [])
-  names = map-append (λ (t : StatementLine). t .number) S (st ∷ [])
+  pub numbers-more : numbers (with-statement S st) ≡ numbers (bare S) ++ (st .number ∷ [])
+  numbers-more = map-append (λ (t : StatementLine). t .number) S (st ∷ [])
 
   pub valid-statement : Valid (bare S) → IsNumber (st .number) → length S < 1024 → ¬ Issued (bare S) (st .number)
       → Valid (with-statement S st)
   valid-statement v w l new = record {
     few-statements = omega (arith, length-append S (st ∷ []));
     few-objections = omega arith;
-    numbered = λ i h. rw names (numbered i (rw names at h));
-    once = λ i j h k. rw names (once i j h (rw names at k));
+    numbered = λ i h. rw numbers-more (numbered i (rw numbers-more at h));
+    once = λ i j h k. rw numbers-more (once i j h (rw numbers-more at k));
     known = λ k h. absurd (not-suc-le-zero h);
     distinct = λ j k h i. absurd (not-suc-le-zero i);
   }
@@ -195,27 +136,13 @@ module _ (S : List StatementLine) (st : StatementLine) where
           go (inr (a, b)) (inl (c, d)) = omega arith
           go (inr (a, b)) (inr (c, d)) = omega arith
 
-  pub holds-statement : (n : ℕ) (nums marks objectors targets : List ℕ) → n < length nums → n < length marks
-      → Holds (bare S) n 0 nums marks objectors targets → Holds (with-statement S st) (n + 1) 0 (set nums n (st .number))
-      (set marks n (markNumber (st .mark))) objectors targets
-  holds-statement n nums marks objectors targets a b h = record {
-    statements = length-append S (st ∷ []) ∙ omega (arith, h .statements);
-    objections = refl;
-    numbers-are = take-more nums n (st .number) a ∙ ap (λ u. u ++ (st .number ∷ [])) (h .numbers-are) ∙ sym names;
-    marks-are =
-        take-more marks n (markNumber (st .mark)) b ∙ ap (λ u. u ++ (markNumber (st .mark) ∷ [])) (h .marks-are)
-        ∙ sym (map-append (λ (t : StatementLine). markNumber (t .mark)) S (st ∷ []));
-    objectors-are = h .objectors-are;
-    targets-are = h .targets-are;
-  }
-
 -- One objection more.
 module _ (R : Register) (o : ObjectionLine) where
-  ys : objectorNumbers (with-objection R o) ≡ objectorNumbers R ++ (o .objector ∷ [])
-  ys = map-append (λ (p : ObjectionLine). p .objector) (R .objections) (o ∷ [])
+  pub objectors-more : objectorNumbers (with-objection R o) ≡ objectorNumbers R ++ (o .objector ∷ [])
+  objectors-more = map-append (λ (p : ObjectionLine). p .objector) (R .objections) (o ∷ [])
 
-  xs : targetNumbers (with-objection R o) ≡ targetNumbers R ++ (o .target ∷ [])
-  xs = map-append (λ (p : ObjectionLine). p .target) (R .objections) (o ∷ [])
+  pub targets-more : targetNumbers (with-objection R o) ≡ targetNumbers R ++ (o .target ∷ [])
+  targets-more = map-append (λ (p : ObjectionLine). p .target) (R .objections) (o ∷ [])
 
   count-y : length (objectorNumbers R) ≡ length (R .objections)
   count-y = length-map (R .objections) (λ (p : ObjectionLine). p .objector)
@@ -245,15 +172,15 @@ module _ (R : Register) (o : ObjectionLine) where
       go (yes p) =
           inl (
             p,
-            rw ys (List·getD-append (objectorNumbers R) (o .objector ∷ []) 0 k (omega (arith, count-y))),
-            rw xs (List·getD-append (targetNumbers R) (o .target ∷ []) 0 k (omega (arith, count-x))),
+            rw objectors-more (List·getD-append (objectorNumbers R) (o .objector ∷ []) 0 k (omega (arith, count-y))),
+            rw targets-more (List·getD-append (targetNumbers R) (o .target ∷ []) 0 k (omega (arith, count-x))),
           )
       go (no p) =
           let e : k ≡ length (R .objections) = omega (arith, length-append (R .objections) (o ∷ [])) in
           inr (
             e,
-            rw ys (at-end (objectorNumbers R) (o .objector) count-y e),
-            rw xs (at-end (targetNumbers R) (o .target) count-x e),
+            rw objectors-more (at-end (objectorNumbers R) (o .objector) count-y e),
+            rw targets-more (at-end (targetNumbers R) (o .target) count-x e),
           )
 
   pub valid-objection : Valid R → length (R .objections) < 4096 → Issued R (o .objector) → Issued R (o .target)
@@ -279,23 +206,3 @@ module _ (R : Register) (o : ObjectionLine) where
       distinct j k h a b (inl (p, q, r)) (inr (p′, q′, r′)) = new (j, p, sym q ∙ a ∙ q′, sym r ∙ b ∙ r′)
       distinct j k h a b (inr (p, q, r)) (inl (p′, q′, r′)) = omega arith
       distinct j k h a b (inr (p, q, r)) (inr (p′, q′, r′)) = omega arith
-
-  pub holds-objection : (n m y x : ℕ) (nums marks objectors targets : List ℕ) → m < length objectors → m < length targets
-      → (h : Holds R n m nums marks objectors targets) → placeOf (numbers R) (o .objector) ≡ y
-      → placeOf (numbers R) (o .target) ≡ x → Holds (with-objection R o) n (m + 1) nums marks (set objectors m y)
-      (set targets m x)
-  holds-objection n m y x nums marks objectors targets a b h p q = record {
-    statements = h .statements;
-    objections = length-append (R .objections) (o ∷ []) ∙ omega (arith, h .objections);
-    numbers-are = h .numbers-are;
-    marks-are = h .marks-are;
-    objectors-are =
-        more objectors y (o .objector) (objectorNumbers R) (objectorNumbers (with-objection R o)) a (h .objectors-are) p ys;
-    targets-are = more targets x (o .target) (targetNumbers R) (targetNumbers (with-objection R o)) b (h .targets-are) q xs;
-  }
-    where
-      more : (room : List ℕ) (e v : ℕ) (nos nos′ : List ℕ) → m < length room → take m room ≡ map (placeOf (numbers R)) nos
-          → placeOf (numbers R) v ≡ e → nos′ ≡ nos ++ (v ∷ []) → take (m + 1) (set room m e) ≡ map (placeOf (numbers R)) nos′
-      more room e v nos nos′ l t w u =
-          take-more room m e l ∙ ap (λ z. z ++ (e ∷ [])) t ∙ ap (λ z. map (placeOf (numbers R)) nos ++ (z ∷ [])) (sym w)
-          ∙ sym (map-append (placeOf (numbers R)) nos (v ∷ [])) ∙ ap (map (placeOf (numbers R))) (sym u)

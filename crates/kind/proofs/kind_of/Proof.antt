@@ -2,10 +2,10 @@
 -- would contradict the game, and a label number above 2 is none.
 use mathlib.Core.Path.{refl}
 use native.Mathlib.Omega.{arith}
 use Rattle.game.proofs.Objection.{kind-at, never-at, ends-low, ends-length}
 use borrow.Author.Needs.{needs}
-use Rattle.game.proofs.kind_of.Statement.{statement}
-use Rattle.game.proofs.kind_of.Tie as tie
+use Rattle.kind.proofs.kind_of.Statement.{statement}
+use Rattle.kind.proofs.kind_of.Tie as tie
 
 add-t6 : tie.Need-add-t6
 add-t6 c = omega (arith, ends-length _ _ _ (c .before .before .pre) (λ z. omega arith))

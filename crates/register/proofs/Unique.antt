@@ -17,8 +17,8 @@ use Rattle.line.specs.declared.Line.the-variants.{Statement, Objection}
 use Rattle.line.proofs.Lines.{line-once, line-not-empty, line-ended}
 use Rattle.refusal.specs.declared.Refusal.{Refusal}
 use Rattle.refusal.specs.declared.Refusal.the-variants.{TooLong, Unended, Spoiled, Late, Issued, Statements, Unknown, Repeated, Objections, Room, Unequal, Mark, Place, Asked, Turns, Sheet}
-use Rattle.text.specs.Register.{Register, Valid, numbers, objectorNumbers, targetNumbers, Issued as OnRegister, Has, lines, bytes, written}
-use Rattle.text.specs.Reads.{Accepts, NotEnded, Reached, Refuses}
+use Rattle.register.specs.Register.{Register, Valid, numbers, objectorNumbers, targetNumbers, Issued as OnRegister, Has, lines, bytes, written}
+use Rattle.register.specs.Reads.{Accepts, NotEnded, Reached, Refuses}
 
 -- every line is well formed
 abbrev pub Formed : List Line → Type 0

@@ -1,0 +1,4 @@
+pub mod Order
+pub mod Steps
+pub mod Settled
+pub mod Unique

@@ -4,8 +4,7 @@
 //! programs: `print` prints what the listing program ought to print, `print WORD` what the reason
 //! program ought to print with this word for its number, `mend` what the mending program ought to
 //! print, with its report on standard error, `examples FOLDER` writes 01's examples.
-//! One is for fuzz/run: `corpus TEXTS LISTS CALLER WORDS..` tries what lies in two folders. And
-//! `sampled CALLER WORDS..` leaves out the tests that go through all inputs of a kind.
+//! One is for fuzz/run: `corpus TEXTS LISTS CALLER WORDS..` tries what lies in two folders.
 
 #![deny(warnings)]
 #![forbid(unsafe_code)]
@@ -27,8 +26,8 @@ use std::path::Path;
 use std::process::ExitCode;
 use suites::Test;
 
-const USAGE: &str = "usage: outside [sampled] CALLER WORDS.., print, print WORD, mend, examples \
-                     FOLDER, or corpus TEXTS LISTS CALLER WORDS..";
+const USAGE: &str = "usage: outside CALLER WORDS.., print, print WORD, mend, examples FOLDER, or \
+                     corpus TEXTS LISTS CALLER WORDS..";
 
 fn main() -> ExitCode {
     let words: Vec<String> = std::env::args().skip(1).collect();
@@ -44,9 +43,6 @@ fn main() -> ExitCode {
         }
         [word, texts, lists, command @ ..] if word == "corpus" && !command.is_empty() => {
             run_tests(&suites::corpus::of(texts.into(), lists.into()), command)
-        }
-        [word, command @ ..] if word == "sampled" && !command.is_empty() => {
-            run_tests(&suites::sampled(), command)
         }
         command => run_tests(&suites::all(), command),
     };

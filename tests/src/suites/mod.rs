@@ -57,19 +57,3 @@ pub fn all() -> Vec<Test> {
     ];
     suites.into_iter().flatten().collect()
 }
-
-/// The tests that go through all inputs of a kind, or nearly all, one call at a time. Where the
-/// library is emulated they take as long as everything else together.
-const EXHAUSTIVE: [&str; 5] = [
-    "damaged texts: ",
-    "every byte ",
-    "every old sheet, every register",
-    "every register up to 3 statements: ",
-    "mending every short text: ",
-];
-
-/// All but those.
-pub fn sampled() -> Vec<Test> {
-    let exhaustive = |test: &Test| EXHAUSTIVE.iter().any(|start| test.name.starts_with(start));
-    all().into_iter().filter(|test| !exhaustive(test)).collect()
-}

@@ -1,5 +1,5 @@
 -- The text of the register that lists hold: numbers and marks in listed order, objectors and targets by place. Lines are as
--- `line` says, and which lists a register makes, `text` says.
+-- `line` says, and which lists a register makes, `register` says.
 use mathlib.Core.Bool.{cond}
 use mathlib.Core.List.{List, [], _∷_, _++_}
 use mathlib.Core.Path.{_≡_}

@@ -1,5 +1,5 @@
 // The register that lists hold, written back as its text into a lent room: a line for each statement, then a line for each
-// objection. Which lists a register makes is left to `text`; words and numbers are put by `writing`.
+// objection. Which lists a register makes is left to `register`; words and numbers are put by `writing`.
 use chain::place;
 use writing::number_size;
 use writing::put_number;

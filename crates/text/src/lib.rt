@@ -1,5 +1,5 @@
-// The register text: read line by line into lent rooms, or refused with 01's number and line. What a line is, is left to
-// `line`; labels are left to others.
+// The register text: read line by line into lent rooms, or refused with 01's number and line. What is accepted and what is
+// refused, `register` says; what a line is, is left to `line`, and labels to others.
 use line::Got;
 use line::Line;
 use line::ObjectionLine;

@@ -17,27 +17,30 @@ enum { SAMPLES = 61 };
 static const double SAMPLE_NS = 1e6;
 
 /* The medians of one register. */
-typedef double times[WORKS][SIDES];
+typedef double times[MOST_WORKS][SIDES];
 
 /* Works, and the shapes of the registers on which they are timed. */
 static const struct table {
-    const char *about;
+    const char *title;
     const struct work *works;
     size_t work_count;
     const struct shape *shapes;
     size_t count;
 } tables[] = {
-    {"the whole register", works_on_all, WORKS, shapes_of_all, SHAPES_OF_ALL},
-    {"one statement", works_on_one, WORKS, shapes_of_one, SHAPES_OF_ONE},
-    {"a register to be mended", works_on_old, MENDING_WORKS, shapes_of_old, SHAPES_OF_OLD},
+    {"Asked for the whole register", works_on_all, WORKS, shapes_of_all, SHAPES_OF_ALL},
+    {"Asked for one statement", works_on_one, WORKS, shapes_of_one, SHAPES_OF_ONE},
+    {"Mending", works_on_old, MENDING_WORKS, shapes_of_old, SHAPES_OF_OLD},
+    {"Looking for repeats", works_on_repeats, SEARCHING_WORKS, shapes_of_repeats,
+     SHAPES_OF_REPEATS},
 };
 
-/* Stops the run unless both sides answer alike. */
+/* Stops the run unless both sides answer alike, and with what the shape is made for. */
 static void must_agree(const struct shape *shape, const struct work *work) {
-    if (sides_agree(work))
+    uint32_t refusal = work->mends ? BATQEMULO_ACCEPTED : shape->refusal;
+    if (sides_agree(work, refusal))
         return;
-    printf("%s, %zu statements, %s: the answers differ\n", shape->name, drawn.statements,
-           work->name);
+    printf("%s, %zu statements, %s: the answers differ, or are not refusal %u\n", shape->name,
+           drawn.statements, work->name, refusal);
     exit(1);
 }
 
@@ -47,7 +50,7 @@ static double now_ns(void) {
     return (double)now.tv_sec * 1e9 + (double)now.tv_nsec;
 }
 
-static double time_ns(int (*side)(void), size_t repeats) {
+static double time_ns(void (*side)(void), size_t repeats) {
     double start = now_ns();
     for (size_t i = 0; i < repeats; i++)
         side();
@@ -76,7 +79,7 @@ static void time_both(const struct work *work, double *medians) {
 }
 
 static void print_head(const struct table *table) {
-    printf("Calls that are asked for %s\n", table->about);
+    printf("%s\n", table->title);
     printf("Microseconds for one call, medians of %d samples by turns; ratio: library / C\n\n",
            (int)SAMPLES);
     printf("%-10s %6s %6s %6s", "", "state-", "", "");
@@ -119,7 +122,7 @@ static void print_growths(const struct table *table, times medians[][SIZES]) {
 }
 
 static void time_table(const struct table *table) {
-    static times medians[SHAPES_OF_ALL > SHAPES_OF_ONE ? SHAPES_OF_ALL : SHAPES_OF_ONE][SIZES];
+    static times medians[MOST_SHAPES][SIZES];
     print_head(table);
     for (size_t i = 0; i < table->count; i++)
         for (size_t size = 0; size < SIZES; size++) {

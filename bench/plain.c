@@ -2,6 +2,7 @@
  * then retrograde analysis in linear time with a queue, counters and chains. Nothing here is
  * proved; it is the yardstick of the benchmark. */
 #include "plain.h"
+#include "plain_pairs.h"
 
 #include <string.h>
 
@@ -12,10 +13,7 @@ struct board {
     const uint32_t *targets;
     size_t statements;
     size_t pairs;
-    /* the last pair of each objector, and before each pair the last of the same objector; pairs are
-     * counted from 1 here, so that 0 says there is none */
-    uint16_t head[BATQEMULO_MAX_STATEMENTS];
-    uint16_t next[BATQEMULO_MAX_OBJECTIONS];
+    struct chain by_objector;
     /* how many objectors of each statement are not known to fall */
     uint16_t left[BATQEMULO_MAX_STATEMENTS];
     /* the statements that have a label, in the order in which they got it */
@@ -38,11 +36,15 @@ static size_t first_outside(const uint32_t *objectors, const uint32_t *targets, 
     return i;
 }
 
-static size_t first_repeat(const uint32_t *objectors, const uint32_t *targets, size_t pairs) {
-    for (size_t i = 0; i < pairs; i++)
-        for (size_t earlier = 0; earlier < i; earlier++)
-            if (objectors[earlier] == objectors[i] && targets[earlier] == targets[i])
-                return i;
+static size_t first_repeat(const uint32_t *objectors, const uint32_t *targets, size_t pairs,
+                           size_t statements) {
+    struct chains passed;
+    begin_chains(&passed, statements);
+    for (size_t i = 0; i < pairs; i++) {
+        if (is_entered(&passed, objectors, targets, objectors[i], targets[i]))
+            return i;
+        enter_pair(&passed, i, objectors[i], targets[i]);
+    }
     return pairs;
 }
 
@@ -70,7 +72,7 @@ batqemulo_answer plain_check(const uint8_t *marks, size_t marks_len, const uint3
         check(marks, marks_len, objectors, objectors_len, targets, targets_len);
     if (found.refusal != BATQEMULO_ACCEPTED)
         return found;
-    size_t i = first_repeat(objectors, targets, objectors_len);
+    size_t i = first_repeat(objectors, targets, objectors_len, marks_len);
     if (i < objectors_len)
         return answer(BATQEMULO_OBJECTION_REPEATED, i);
     return found;
@@ -78,12 +80,10 @@ batqemulo_answer plain_check(const uint8_t *marks, size_t marks_len, const uint3
 
 /* Clears only what this register uses, then chains the pairs and counts the objectors. */
 static void set_up(struct board *b) {
-    memset(b->head, 0, b->statements * sizeof b->head[0]);
+    begin_chain(&b->by_objector, b->statements);
     memset(b->left, 0, b->statements * sizeof b->left[0]);
     for (size_t i = 0; i < b->pairs; i++) {
-        uint32_t objector = b->objectors[i];
-        b->next[i] = b->head[objector];
-        b->head[objector] = (uint16_t)(i + 1);
+        link_pair(&b->by_objector, i, b->objectors[i]);
         b->left[b->targets[i]]++;
     }
     b->queued = 0;
@@ -99,7 +99,8 @@ static void settle(struct board *b, uint8_t *labels, uint16_t *lengths, size_t x
 /* The statement y has got its label: what follows for those it objects to. */
 static void pass_on(struct board *b, uint8_t *labels, uint16_t *lengths, size_t y) {
     uint16_t length = (uint16_t)(lengths[y] + 1);
-    for (size_t pair = b->head[y]; pair != 0; pair = b->next[pair - 1]) {
+    const struct chain *chain = &b->by_objector;
+    for (size_t pair = chain->latest[y]; pair != 0; pair = chain->earlier[pair - 1]) {
         size_t x = b->targets[pair - 1];
         if (labels[y] == BATQEMULO_STANDS) {
             if (labels[x] == BATQEMULO_OPEN)

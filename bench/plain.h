@@ -14,7 +14,7 @@ static inline batqemulo_answer answer(uint32_t refusal, size_t value) {
 void plain_solve(const uint8_t *marks, size_t statements, const uint32_t *objectors,
                  const uint32_t *targets, size_t pairs, uint8_t *labels, uint16_t *lengths);
 
-/* The first fault of lists, the search for a repeated pair quadratic as the library's is. */
+/* The first fault of lists; a repeated pair is looked for along chains, as the library does. */
 batqemulo_answer plain_check(const uint8_t *marks, size_t marks_len, const uint32_t *objectors,
                              size_t objectors_len, const uint32_t *targets, size_t targets_len);
 
@@ -43,8 +43,8 @@ batqemulo_answer plain_pairs_exercise(const uint8_t *marks, size_t marks_len,
                                       const uint32_t *targets, size_t targets_len, uint32_t place,
                                       uint32_t turns);
 
-/* As batqemulo_listing: numbers are looked up by hashing, and the search for a repeated objection
- * is quadratic. */
+/* As batqemulo_listing: numbers are looked up by hashing, and a repeated objection is looked for
+ * along chains. */
 batqemulo_answer plain_listing(const uint8_t *text, size_t text_len, uint8_t *room,
                                size_t room_len);
 

@@ -1,9 +1,10 @@
 /* What the work on texts in plain C shares: what was read, numbers looked up by hashing, lines
- * taken apart, words and numbers put down. */
+ * taken apart, objections kept, words and numbers put down. */
 #ifndef PLAIN_LINES_H
 #define PLAIN_LINES_H
 
 #include "plain.h"
+#include "plain_pairs.h"
 
 #include <string.h>
 
@@ -18,6 +19,8 @@ struct page {
     uint8_t marks[BATQEMULO_MAX_STATEMENTS];
     uint32_t objectors[BATQEMULO_MAX_OBJECTIONS];
     uint32_t targets[BATQEMULO_MAX_OBJECTIONS];
+    /* the objections in their chains, which begin when all statements are read */
+    struct chains chains;
     /* the place of a number, counted from 1, so that 0 says there is none */
     uint16_t slots[SLOTS];
 };
@@ -52,12 +55,16 @@ static inline uint32_t take_number(struct line *line) {
     return line->at == first || line->at == first + 9 || *first == '0' ? 0 : number;
 }
 
-/* Whether this pair of places was read before. */
+/* Whether this pair of places was kept before. */
 static inline int is_repeated(const struct page *page, uint32_t objector, uint32_t target) {
-    for (size_t i = 0; i < page->objections; i++)
-        if (page->objectors[i] == objector && page->targets[i] == target)
-            return 1;
-    return 0;
+    return is_entered(&page->chains, page->objectors, page->targets, objector, target);
+}
+
+static inline void keep_objection(struct page *page, uint32_t objector, uint32_t target) {
+    enter_pair(&page->chains, page->objections, objector, target);
+    page->objectors[page->objections] = objector;
+    page->targets[page->objections] = target;
+    page->objections++;
 }
 
 static inline uint8_t *put_word(uint8_t *to, const char *word, size_t length) {

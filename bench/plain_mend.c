@@ -1,6 +1,6 @@
 /* Mending as a C programmer would write it by hand: one pass over the lines settles the statements,
- * a second one the objections, with the search for a repeat quadratic as the library's is; then
- * text and report are put down. */
+ * a second one the objections, with repeats looked for along chains; then text and report are put
+ * down. */
 #include "plain_lines.h"
 
 /* The lengths of the two words of a report, with the tabs around each, the cause and byte 10. */
@@ -95,13 +95,12 @@ static uint32_t settle_objection(struct page *page, struct entry entry) {
         page->marks[target - 1] = BATQEMULO_UNREAD;
         return BATQEMULO_TOO_MANY_OBJECTIONS;
     }
-    page->objectors[page->objections] = objector - 1;
-    page->targets[page->objections] = target - 1;
-    page->objections++;
+    keep_objection(page, objector - 1, target - 1);
     return BATQEMULO_ACCEPTED;
 }
 
 static void settle_objections(struct mending *mending, const uint8_t *at, const uint8_t *end) {
+    begin_chains(&mending->page.chains, mending->page.statements);
     for (size_t line = 0; line < mending->lines; line++) {
         struct entry entry = next_entry(&at, end);
         if (entry.kind == OBJECTION)

@@ -36,11 +36,11 @@ static uint32_t read_objection(struct page *page, struct line *line) {
     target = *slot_of(page, target);
     if (objector == 0 || target == 0)
         return BATQEMULO_NUMBER_UNKNOWN;
+    if (page->objections == 0)
+        begin_chains(&page->chains, page->statements);
     if (is_repeated(page, objector - 1, target - 1))
         return BATQEMULO_OBJECTION_REPEATED;
-    page->objectors[page->objections] = objector - 1;
-    page->targets[page->objections] = target - 1;
-    page->objections++;
+    keep_objection(page, objector - 1, target - 1);
     return BATQEMULO_ACCEPTED;
 }
 

@@ -56,6 +56,21 @@ static void draw_star(void) {
             add(objector, target);
 }
 
+/* All statements against four of them. */
+static void draw_fans(void) {
+    for (size_t target = 0; target < 4; target++)
+        for (size_t objector = 0; objector < drawn.statements; objector++)
+            add(objector, target);
+}
+
+/* The last pair repeats an earlier one: all the others are searched for before it is found. */
+static void draw_late(void) {
+    draw_random();
+    size_t last = drawn.pairs - 1, earlier = below(last);
+    drawn.objectors[last] = drawn.objectors[earlier];
+    drawn.targets[last] = drawn.targets[earlier];
+}
+
 static void draw_unread(void) {
     memset(drawn.marks, BATQEMULO_UNREAD, drawn.statements);
     add_random();
@@ -100,6 +115,15 @@ static void draw_crowd(void) {
         drawn.statements++;
     for (size_t pair = 0; pair < drawn.statements * drawn.statements; pair++)
         add(pair / drawn.statements, pair % drawn.statements);
+}
+
+/* One statement against itself, then against all others, then all others against it. */
+static void draw_cross(void) {
+    drawn.small_numbers = 1;
+    for (size_t target = 0; target < drawn.statements; target++)
+        add(0, target);
+    for (size_t objector = 1; objector < drawn.statements; objector++)
+        add(objector, 0);
 }
 
 /* So many statements, in the shortest lines, and no objection. */
@@ -169,10 +193,18 @@ static void wear_second(void) {
         append_statement(0);
 }
 
-/* The last objections come again, which are found latest. */
+/* The last objections come again: found latest by a search that begins with the first ones, and at
+ * once along chains. */
 static void wear_repeats(void) {
     while (has_space())
         append_objection(drawn.statements - 1, below(drawn.statements));
+}
+
+/* The first objection comes again: of a cross it is the last in both of its chains, so that nothing
+ * is searched for longer. */
+static void wear_first(void) {
+    while (has_space())
+        append_objection(0, 0);
 }
 
 static void wear_unknown(void) {
@@ -181,22 +213,34 @@ static void wear_unknown(void) {
 }
 
 const struct shape shapes_of_all[SHAPES_OF_ALL] = {
-    {"random", draw_random, NULL}, {"chain", draw_chain, NULL},       {"dense", draw_dense, NULL},
-    {"star", draw_star, NULL},     {"all unread", draw_unread, NULL}, {"alone", draw_alone, NULL},
+    {.name = "random", .draw = draw_random},     {.name = "chain", .draw = draw_chain},
+    {.name = "dense", .draw = draw_dense},       {.name = "star", .draw = draw_star},
+    {.name = "all unread", .draw = draw_unread}, {.name = "alone", .draw = draw_alone},
 };
 
 const struct shape shapes_of_one[SHAPES_OF_ONE] = {
-    {"random", draw_random, NULL},
-    {"chain", draw_chain, NULL},
-    {"ladder", draw_ladder, NULL},
-    {"stairs", draw_stairs, NULL},
+    {.name = "random", .draw = draw_random},
+    {.name = "chain", .draw = draw_chain},
+    {.name = "ladder", .draw = draw_ladder},
+    {.name = "stairs", .draw = draw_stairs},
 };
 
 /* The first is a register, with nothing to mend. */
 const struct shape shapes_of_old[SHAPES_OF_OLD] = {
-    {"random", draw_random, NULL},       {"blank", draw_none, wear_blank},
-    {"seconds", draw_one, wear_second},  {"repeats", draw_crowd, wear_repeats},
-    {"unknown", draw_one, wear_unknown},
+    {.name = "random", .draw = draw_random},
+    {.name = "blank", .draw = draw_none, .wear = wear_blank},
+    {.name = "seconds", .draw = draw_one, .wear = wear_second},
+    {.name = "repeats", .draw = draw_crowd, .wear = wear_repeats},
+    {.name = "cross", .draw = draw_cross, .wear = wear_first},
+    {.name = "unknown", .draw = draw_one, .wear = wear_unknown},
+};
+
+const struct shape shapes_of_repeats[SHAPES_OF_REPEATS] = {
+    {.name = "random", .draw = draw_random},
+    {.name = "chain", .draw = draw_chain},
+    {.name = "dense", .draw = draw_crowd},
+    {.name = "fans", .draw = draw_fans},
+    {.name = "late", .draw = draw_late, .refusal = BATQEMULO_OBJECTION_REPEATED},
 };
 
 void draw(const struct shape *shape, size_t size) {

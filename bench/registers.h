@@ -8,19 +8,23 @@
 enum { SIZES = 4 };
 
 /* The shapes for calls that answer for all statements, for those that are asked for one, which is
- * the first, and for the call that mends. */
-enum { SHAPES_OF_ALL = 6, SHAPES_OF_ONE = 4, SHAPES_OF_OLD = 5 };
+ * the first, for the call that mends, and for the search for repeats; and the most of them. */
+enum { SHAPES_OF_ALL = 6, SHAPES_OF_ONE = 4, SHAPES_OF_OLD = 6, SHAPES_OF_REPEATS = 5 };
+enum { MOST_SHAPES = SHAPES_OF_ALL };
 
 struct shape {
     const char *name;
     void (*draw)(void);
     /* fills what is left of the text, for a shape that is to be mended; else NULL */
     void (*wear)(void);
+    /* the answer of the works that are timed on it, but for mending, which accepts all */
+    uint32_t refusal;
 };
 
 extern const struct shape shapes_of_all[SHAPES_OF_ALL];
 extern const struct shape shapes_of_one[SHAPES_OF_ONE];
 extern const struct shape shapes_of_old[SHAPES_OF_OLD];
+extern const struct shape shapes_of_repeats[SHAPES_OF_REPEATS];
 
 struct drawn {
     size_t statements;

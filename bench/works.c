@@ -1,5 +1,5 @@
 /* The calls that are timed, each on the register that is drawn: those that answer for all of its
- * statements, those that are asked for one, and the one that mends. */
+ * statements, those that are asked for one, the one that mends, and those that look for repeats. */
 #include "works.h"
 
 #include "batqemulo.h"
@@ -14,6 +14,10 @@ uint32_t bench_solver_label(const uint8_t *marks, size_t marks_len, const uint32
                             uint8_t *labels, size_t labels_len, uint16_t *lengths,
                             size_t lengths_len);
 
+/* The library's checks of lists alone, the search among them: 1 if the lists are in order. */
+uint32_t bench_solver_check(const uint8_t *marks, size_t marks_len, const uint32_t *objectors,
+                            size_t objectors_len, const uint32_t *targets, size_t targets_len);
+
 /* The statement that is asked for. */
 enum { ASKED = 0 };
 
@@ -25,122 +29,140 @@ static struct rooms {
     uint8_t mended[BATQEMULO_MAX_TEXT_BYTES];
     uint8_t report[BATQEMULO_MAX_REPORT_BYTES];
     uint32_t reported;
-    uint32_t value;
+    batqemulo_answer answer;
 } by_library, by_plain;
 
-static int call_library(void) {
-    return batqemulo_pairs_labels(drawn.marks, drawn.statements, drawn.objectors, drawn.pairs,
-                                  drawn.targets, drawn.pairs, by_library.labels, drawn.statements)
-               .refusal == BATQEMULO_ACCEPTED;
+/* The answer of a work that says only yes, which is 1, or no: no lists that are drawn have another
+ * fault than a repeat. */
+static batqemulo_answer yes_or_repeated(uint32_t said) {
+    return answer(said == 1 ? BATQEMULO_ACCEPTED : BATQEMULO_OBJECTION_REPEATED, 0);
 }
 
-static int call_plain(void) {
-    return plain_pairs_labels(drawn.marks, drawn.statements, drawn.objectors, drawn.pairs,
-                              drawn.targets, drawn.pairs, by_plain.labels, drawn.statements)
-               .refusal == BATQEMULO_ACCEPTED;
+static void call_library(void) {
+    by_library.answer =
+        batqemulo_pairs_labels(drawn.marks, drawn.statements, drawn.objectors, drawn.pairs,
+                               drawn.targets, drawn.pairs, by_library.labels, drawn.statements);
 }
 
-static int solve_library(void) {
-    return bench_solver_label(drawn.marks, drawn.statements, drawn.objectors, drawn.pairs,
-                              drawn.targets, drawn.pairs, by_library.labels, drawn.statements,
-                              by_library.lengths, drawn.statements) == 1;
+static void call_plain(void) {
+    by_plain.answer =
+        plain_pairs_labels(drawn.marks, drawn.statements, drawn.objectors, drawn.pairs,
+                           drawn.targets, drawn.pairs, by_plain.labels, drawn.statements);
 }
 
-static int solve_plain(void) {
-    return plain_solver_label(drawn.marks, drawn.statements, drawn.objectors, drawn.pairs,
-                              drawn.targets, drawn.pairs, by_plain.labels, drawn.statements,
-                              by_plain.lengths, drawn.statements) == 1;
+static void solve_library(void) {
+    by_library.answer = yes_or_repeated(bench_solver_label(
+        drawn.marks, drawn.statements, drawn.objectors, drawn.pairs, drawn.targets, drawn.pairs,
+        by_library.labels, drawn.statements, by_library.lengths, drawn.statements));
 }
 
-static int list_library(void) {
-    return batqemulo_listing(drawn.text, drawn.bytes, by_library.listing, sizeof by_library.listing)
-               .refusal == BATQEMULO_ACCEPTED;
+static void solve_plain(void) {
+    by_plain.answer = yes_or_repeated(plain_solver_label(
+        drawn.marks, drawn.statements, drawn.objectors, drawn.pairs, drawn.targets, drawn.pairs,
+        by_plain.labels, drawn.statements, by_plain.lengths, drawn.statements));
 }
 
-static int list_plain(void) {
-    return plain_listing(drawn.text, drawn.bytes, by_plain.listing, sizeof by_plain.listing)
-               .refusal == BATQEMULO_ACCEPTED;
+static void list_library(void) {
+    by_library.answer =
+        batqemulo_listing(drawn.text, drawn.bytes, by_library.listing, sizeof by_library.listing);
+}
+
+static void list_plain(void) {
+    by_plain.answer =
+        plain_listing(drawn.text, drawn.bytes, by_plain.listing, sizeof by_plain.listing);
 }
 
 const struct work works_on_all[WORKS] = {
-    {"batqemulo_pairs_labels", {call_library, call_plain}},
-    {"the solver by itself", {solve_library, solve_plain}},
-    {"batqemulo_listing", {list_library, list_plain}},
+    {"batqemulo_pairs_labels", {call_library, call_plain}, 0},
+    {"the solver by itself", {solve_library, solve_plain}, 0},
+    {"batqemulo_listing", {list_library, list_plain}, 0},
 };
 
-/* Keeps the answer itself, too. */
-static int take(struct rooms *rooms, batqemulo_answer answer) {
-    rooms->value = answer.value;
-    return answer.refusal == BATQEMULO_ACCEPTED;
+static void line_library(void) {
+    by_library.answer = batqemulo_pairs_line(drawn.marks, drawn.statements, drawn.objectors,
+                                             drawn.pairs, drawn.targets, drawn.pairs, ASKED,
+                                             by_library.line, BATQEMULO_MAX_LINE_ENTRIES);
 }
 
-static int line_library(void) {
-    return take(&by_library, batqemulo_pairs_line(drawn.marks, drawn.statements, drawn.objectors,
-                                                  drawn.pairs, drawn.targets, drawn.pairs, ASKED,
-                                                  by_library.line, BATQEMULO_MAX_LINE_ENTRIES));
+static void line_plain(void) {
+    by_plain.answer =
+        plain_pairs_line(drawn.marks, drawn.statements, drawn.objectors, drawn.pairs, drawn.targets,
+                         drawn.pairs, ASKED, by_plain.line, BATQEMULO_MAX_LINE_ENTRIES);
 }
 
-static int line_plain(void) {
-    return take(&by_plain, plain_pairs_line(drawn.marks, drawn.statements, drawn.objectors,
-                                            drawn.pairs, drawn.targets, drawn.pairs, ASKED,
-                                            by_plain.line, BATQEMULO_MAX_LINE_ENTRIES));
+static void exercise_library_within(uint32_t turns) {
+    by_library.answer =
+        batqemulo_pairs_exercise(drawn.marks, drawn.statements, drawn.objectors, drawn.pairs,
+                                 drawn.targets, drawn.pairs, ASKED, turns);
 }
 
-static int exercise_library_within(uint32_t turns) {
-    return take(&by_library,
-                batqemulo_pairs_exercise(drawn.marks, drawn.statements, drawn.objectors,
-                                         drawn.pairs, drawn.targets, drawn.pairs, ASKED, turns));
+static void exercise_plain_within(uint32_t turns) {
+    by_plain.answer = plain_pairs_exercise(drawn.marks, drawn.statements, drawn.objectors,
+                                           drawn.pairs, drawn.targets, drawn.pairs, ASKED, turns);
 }
 
-static int exercise_plain_within(uint32_t turns) {
-    return take(&by_plain,
-                plain_pairs_exercise(drawn.marks, drawn.statements, drawn.objectors, drawn.pairs,
-                                     drawn.targets, drawn.pairs, ASKED, turns));
+static void exercise_library(void) {
+    exercise_library_within(BATQEMULO_MAX_TURNS);
 }
 
-static int exercise_library(void) {
-    return exercise_library_within(BATQEMULO_MAX_TURNS);
+static void exercise_plain(void) {
+    exercise_plain_within(BATQEMULO_MAX_TURNS);
 }
 
-static int exercise_plain(void) {
-    return exercise_plain_within(BATQEMULO_MAX_TURNS);
+static void no_turns_library(void) {
+    exercise_library_within(0);
 }
 
-static int no_turns_library(void) {
-    return exercise_library_within(0);
-}
-
-static int no_turns_plain(void) {
-    return exercise_plain_within(0);
+static void no_turns_plain(void) {
+    exercise_plain_within(0);
 }
 
 /* With 0 turns nothing is asked but the statement itself: what is left is the check of the lists
  * and the clearing of rooms. */
 const struct work works_on_one[WORKS] = {
-    {"batqemulo_pairs_line", {line_library, line_plain}},
-    {"pairs_exercise, 6 turns", {exercise_library, exercise_plain}},
-    {"pairs_exercise, 0 turns", {no_turns_library, no_turns_plain}},
+    {"batqemulo_pairs_line", {line_library, line_plain}, 0},
+    {"pairs_exercise, 6 turns", {exercise_library, exercise_plain}, 0},
+    {"pairs_exercise, 0 turns", {no_turns_library, no_turns_plain}, 0},
 };
 
-static int mend_library(void) {
-    return take(&by_library,
-                batqemulo_mend(drawn.text, drawn.bytes, by_library.mended, sizeof by_library.mended,
-                               by_library.report, sizeof by_library.report, &by_library.reported));
+static void mend_library(void) {
+    by_library.answer =
+        batqemulo_mend(drawn.text, drawn.bytes, by_library.mended, sizeof by_library.mended,
+                       by_library.report, sizeof by_library.report, &by_library.reported);
 }
 
-static int mend_plain(void) {
-    return take(&by_plain,
-                plain_mend(drawn.text, drawn.bytes, by_plain.mended, sizeof by_plain.mended,
-                           by_plain.report, sizeof by_plain.report, &by_plain.reported));
+static void mend_plain(void) {
+    by_plain.answer = plain_mend(drawn.text, drawn.bytes, by_plain.mended, sizeof by_plain.mended,
+                                 by_plain.report, sizeof by_plain.report, &by_plain.reported);
 }
 
 const struct work works_on_old[MENDING_WORKS] = {
-    {"batqemulo_mend", {mend_library, mend_plain}},
+    {"batqemulo_mend", {mend_library, mend_plain}, 1},
 };
 
-int sides_agree(const struct work *work) {
+static void check_library(void) {
+    by_library.answer = yes_or_repeated(bench_solver_check(
+        drawn.marks, drawn.statements, drawn.objectors, drawn.pairs, drawn.targets, drawn.pairs));
+}
+
+static void check_plain(void) {
+    by_plain.answer = yes_or_repeated(plain_check(drawn.marks, drawn.statements, drawn.objectors,
+                                                  drawn.pairs, drawn.targets, drawn.pairs)
+                                          .refusal == BATQEMULO_ACCEPTED);
+}
+
+const struct work works_on_repeats[SEARCHING_WORKS] = {
+    {"the search by itself", {check_library, check_plain}, 0},
+    {"batqemulo_pairs_labels", {call_library, call_plain}, 0},
+    {"batqemulo_listing", {list_library, list_plain}, 0},
+    {"batqemulo_mend", {mend_library, mend_plain}, 1},
+};
+
+int sides_agree(const struct work *work, uint32_t refusal) {
     memset(&by_library, 9, sizeof by_library);
     memset(&by_plain, 9, sizeof by_plain);
-    return work->sides[LIBRARY]() && work->sides[PLAIN]() &&
+    work->sides[LIBRARY]();
+    work->sides[PLAIN]();
+    return by_library.answer.refusal == refusal &&
            memcmp(&by_library, &by_plain, sizeof by_plain) == 0;
 }

@@ -3,23 +3,30 @@
 #ifndef WORKS_H
 #define WORKS_H
 
+#include <stdint.h>
+
 /* The two sides of a comparison. */
 enum { LIBRARY, PLAIN, SIDES };
 
-/* How many works there are in a table: of calls that answer, and of the one that mends. */
-enum { WORKS = 3, MENDING_WORKS = 1 };
+/* How many works there are in a table: of calls that answer, of the one that mends, and of those
+ * that look for repeats; and the most of them. */
+enum { WORKS = 3, MENDING_WORKS = 1, SEARCHING_WORKS = 4, MOST_WORKS = SEARCHING_WORKS };
 
 struct work {
     const char *name;
-    /* each answers whether the drawn register was accepted */
-    int (*sides[SIDES])(void);
+    /* each leaves its answer in its rooms */
+    void (*sides[SIDES])(void);
+    /* whether it accepts what the others refuse */
+    int mends;
 };
 
 extern const struct work works_on_all[WORKS];
 extern const struct work works_on_one[WORKS];
 extern const struct work works_on_old[MENDING_WORKS];
+extern const struct work works_on_repeats[SEARCHING_WORKS];
 
-/* Whether both sides accept the drawn register and fill their rooms alike. */
-int sides_agree(const struct work *work);
+/* Whether both sides answer the drawn register with this refusal, at the same place if it has one,
+ * and fill their rooms alike. */
+int sides_agree(const struct work *work, uint32_t refusal);
 
 #endif

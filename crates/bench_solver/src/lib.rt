@@ -1,8 +1,11 @@
-// The solver by itself, for the benchmark alone and no part of the product: the cheap checks, without the search for
-// repeats, then labels and lengths. Answers 1 where it solved and 0 where it did not.
+// Parts of the product by themselves, for the benchmark alone and no part of it: the solver behind the cheap checks, without the
+// search for repeats; and the checks with that search, without the solver.
+use pairs::Checked;
 ghost use mathlib.Core.Path.{_≡_};
 ghost use Rattle.label.specs.Labelled.{Solved};
+ghost use Rattle.pairs.specs.Refuses.{Lists};
 
+// Labels and lengths. Answers 1 where it solved and 0 where it did not.
 #[no_mangle]
 pub extern "C" fn bench_solver_label(
     marks: &[u8],
@@ -36,5 +39,16 @@ pub extern "C" fn bench_solver_label(
         return 0;
     }
     label::solve(marks, objectors, targets, labels, lengths);
+    1
+}
+
+// Answers 1 where the lists are in order and no pair comes twice, and 0 where they are not.
+#[no_mangle]
+pub extern "C" fn bench_solver_check(marks: &[u8], objectors: &[u32], targets: &[u32]) -> u32
+    ensures { λ r. ⌜ (r ≡ 1 → Lists (now (marks .entry)) (now (objectors .entry)) (now (targets .entry))) ⌝ }
+{
+    if let Checked::Refused(_) = pairs::check(marks, objectors, targets) {
+        return 0;
+    }
     1
 }

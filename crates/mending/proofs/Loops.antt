@@ -12,7 +12,7 @@ use Rattle.line.specs.declared.Line.the-variants.{Statement, Objection}
 use Rattle.register.specs.Register.{Register, Valid}
 use Rattle.text.specs.State.{Holds}
 use Rattle.register.proofs.Steps.{empty-valid}
-use Rattle.text.proofs.Held.{take-more}
+use Rattle.text.proofs.Held.{take-more, holds-back}
 use Rattle.mended.specs.TextLines.{TextLine, good, spoiled, unended, LinesOf}
 use Rattle.mended.specs.Mended.{withStatement, withObjection, withStatements, withObjections, lateAfter, listed, mended, fateOf, fatesFrom, fates}
 use Rattle.mended.proofs.Lines.{none-first, few-lines}
@@ -230,3 +230,13 @@ objecting-last s ls at n m k nums marks objectors targets room v h =
           ap (λ j. take j room) c ∙ sym (append-nil (take k room))
           ∙ sym (v .fates-are ∙ ap (λ u. take k room ++ fatesFrom (v .S) (v .late) (v .R) u) none);
     }
+
+-- what is settled in linked rooms is settled in the lists given back
+pub settled-back : (ls : List TextLine) (n m : ℕ) (nums marks objectors targets fates-room objectors′ targets′ : List ℕ)
+    → ObjectionsSettled ls n m nums marks objectors targets fates-room → take m objectors′ ≡ take m objectors
+    → take m targets′ ≡ take m targets → ObjectionsSettled ls n m nums marks objectors′ targets′ fates-room
+settled-back ls n m nums marks objectors targets fates-room objectors′ targets′ s p q = record {
+  valid = s .valid;
+  holds = holds-back (mended ls) n m nums marks objectors targets objectors′ targets′ (s .holds) p q;
+  fates-are = s .fates-are;
+}

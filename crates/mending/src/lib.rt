@@ -5,7 +5,7 @@ use line::Line;
 ghost use mathlib.Core.Bool.{cond};
 ghost use mathlib.Core.List.{List};
 ghost use mathlib.Core.Path.{_≡_};
-ghost use Prim.Native.Nat.{ℕ, _+_, _≤_, _<_};
+ghost use Prim.Native.Nat.{_+_, _≤_, _<_};
 ghost use lib.Dec.{eqb};
 ghost use lib.ListN.{length, drop};
 ghost use Rattle.index.specs.Indexed.{Indexed};
@@ -15,6 +15,8 @@ ghost use Rattle.text.specs.State.{Holds};
 ghost use Rattle.mended.specs.TextLines.{TextLine, LinesOf};
 ghost use Rattle.mended.specs.Mended.{movedIf};
 ghost use Rattle.settling.specs.Settled.{Stated};
+ghost use Rattle.linked.specs.Linked.{objectorsIn, targetsIn};
+ghost use Rattle.repeats.specs.Chains.{Chains};
 ghost use Rattle.mending.specs.Passes.{NextEnd, AnyLineAt, StatementPassed, ObjectionPassed, StatementsSettled, ObjectionsSettled, TextSettled, StatementRooms, ObjectionRooms};
 
 // A line of any text, and where the next one starts. An unended line is the last.
@@ -196,11 +198,14 @@ fn pass_objection(
     m: usize,
 ) -> ObjectionPass
     requires { ⌜ (at < length (now text)) × (k < length (now fates)) × (n ≤ 1024) × (m ≤ 4096) × (1024 ≤ length (now marks)) ⌝ }
-    requires { ⌜ ObjectionRooms (now objectors) (now targets) × Indexed (now numbers) n (now links) ⌝ }
+    requires { ⌜ ObjectionRooms (now objectors) (now targets) × Indexed (now numbers) n (now links)
+        × Chains n m (now objectors) (now targets) ⌝ }
     ensures { λ r. ⌜ ((ls : List TextLine) (R : Register) → LinesOf (drop at (now (text .entry))) ls → Valid R
-        → Holds R n m (now (numbers .entry)) (now (marks .entry)) (now (objectors .entry)) (now (targets .entry))
+        → Holds R n m (now (numbers .entry)) (now (marks .entry)) (objectorsIn (now (objectors .entry)))
+        (targetsIn (now (objectors .entry)))
         → ObjectionPassed (now (text .entry)) at ls R n (now (fates .entry)) k r (now (numbers .entry)) (now (marks .exit))
-        (now (objectors .exit)) (now (targets .exit)) (now (fates .exit))) ⌝ }
+        (objectorsIn (now (objectors .exit))) (targetsIn (now (objectors .exit))) (now (fates .exit)))
+        × Chains n (r .objections) (now (objectors .exit)) (now (targets .exit)) ⌝ }
 {
     match any_line(text, at) {
         AnyLine::Unended => ObjectionPass {
@@ -255,6 +260,7 @@ fn settle_objections(
         (now (links .entry)) (now (fates .entry)) → ObjectionsSettled ls n m (now (numbers .entry)) (now (marks .exit))
         (now (objectors .exit)) (now (targets .exit)) (now (fates .exit))) ⌝ }
 {
+    repeats::begin(objectors, targets, n, 0);
     let mut at = 0;
     let mut m = 0;
     let mut k = 0;
@@ -276,6 +282,7 @@ fn settle_objections(
         m = pass.objections;
         k += 1;
     }
+    repeats::give_back(objectors, targets, m);
     m
 }
 

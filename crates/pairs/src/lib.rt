@@ -3,10 +3,12 @@
 use chain::place;
 use refusal::Refusal;
 ghost use mathlib.Core.Path.{_≡_};
-ghost use Prim.Native.Nat.{_<_, _≤_};
+ghost use Prim.Native.Nat.{_<_};
 ghost use lib.ListN.{length};
 ghost use Rattle.game.specs.Find.{Found};
-ghost use Rattle.pairs.specs.Refuses.{BadMark, BadPlace, Repeat, Same, Checks};
+ghost use Rattle.chain.specs.Handed.{Handed};
+ghost use Rattle.repeats.specs.Chains.{Chains};
+ghost use Rattle.pairs.specs.Refuses.{BadMark, BadPlace, Repeat, Checks};
 
 pub enum Checked {
     Accepted,
@@ -46,39 +48,41 @@ pub fn bad_place(marks: &[u8], objectors: &[u32], targets: &[u32]) -> usize
     k
 }
 
-// The first of the entries before n that is the objection of y against x, or n.
-pub fn pair_at(objectors: &[u32], targets: &[u32], n: usize, y: u32, x: u32) -> usize
-    requires { ⌜ (n ≤ length (now objectors)) × (n ≤ length (now targets)) ⌝ }
-    ensures { λ r. ⌜ Found (Same (now (objectors .entry)) (now (targets .entry)) y x) n r ⌝ }
-{
-    let mut j = 0;
-    while j < n {
-        if objectors[j] != y {
-            j += 1;
-            continue;
-        }
-        if targets[j] != x {
-            j += 1;
-            continue;
-        }
-        return j;
-    }
-    j
-}
-
-// The first pair that stands earlier too, or the number of pairs.
-fn repeated(objectors: &[u32], targets: &[u32]) -> usize
-    requires { ⌜ length (now targets) ≡ length (now objectors) ⌝ }
+// The first pair that stands earlier too, or the number of pairs. The handed lists are only read: the pairs passed are linked in two
+// rooms of our own.
+fn first_repeat(
+    marks: &[u8],
+    objectors: &[u32],
+    targets: &[u32],
+    copies: &mut [u32],
+    links: &mut [u32],
+) -> usize
+    requires { ⌜ Handed (now marks) (now objectors) (now targets) ⌝ }
+    requires { ⌜ Chains (length (now marks)) 0 (now copies) (now links) ⌝ }
     ensures { λ r. ⌜ Found (Repeat (now (objectors .entry)) (now (targets .entry))) (length (now (objectors .entry))) r ⌝ }
 {
+    let n = marks.len();
     let mut k = 0;
     while k < objectors.len() {
-        if pair_at(objectors, targets, k, objectors[k], targets[k]) < k {
+        let y = place(objectors[k]);
+        let x = place(targets[k]);
+        if repeats::pair_at(copies, links, n, k, y, x) < k {
             return k;
         }
+        repeats::enter(copies, links, n, k, y, x);
         k += 1;
     }
     k
+}
+
+// The first pair that stands earlier too, or the number of pairs.
+fn repeated(marks: &[u8], objectors: &[u32], targets: &[u32]) -> usize
+    requires { ⌜ Handed (now marks) (now objectors) (now targets) ⌝ }
+    ensures { λ r. ⌜ Found (Repeat (now (objectors .entry)) (now (targets .entry))) (length (now (objectors .entry))) r ⌝ }
+{
+    let mut copies = [0u32; 4096];
+    let mut links = [0u32; 3072];
+    first_repeat(marks, objectors, targets, &mut copies, &mut links)
 }
 
 pub fn check(marks: &[u8], objectors: &[u32], targets: &[u32]) -> Checked
@@ -101,7 +105,7 @@ pub fn check(marks: &[u8], objectors: &[u32], targets: &[u32]) -> Checked
     if pair < objectors.len() {
         return Checked::Refused(Refusal::Place(pair as u32));
     }
-    let again = repeated(objectors, targets);
+    let again = repeated(marks, objectors, targets);
     if again < objectors.len() {
         return Checked::Refused(Refusal::Repeated(again as u32));
     }

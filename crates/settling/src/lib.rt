@@ -3,9 +3,13 @@
 // it is dropped. Reading the lines is left to `mending`.
 use line::ObjectionLine;
 use line::StatementLine;
-ghost use Prim.Native.Nat.{_≤_};
+ghost use mathlib.Core.Bool.{cond};
+ghost use Prim.Native.Nat.{_+_, _≤_};
+ghost use lib.Dec.{eqb};
 ghost use lib.ListN.{length};
 ghost use Rattle.index.specs.Indexed.{Indexed};
+ghost use Rattle.linked.specs.Linked.{objectorsIn, targetsIn};
+ghost use Rattle.repeats.specs.Chains.{Chains};
 ghost use Rattle.settling.specs.Settled.{StatementSettled, ObjectionSettled};
 
 // Settles a statement after n kept: 5 marks the first one unread, 6, or kept.
@@ -50,9 +54,10 @@ pub fn settle_objection(
 ) -> u8
     requires { ⌜ (n ≤ 1024) × (m ≤ 4096) × (1024 ≤ length (now marks)) × (4096 ≤ length (now objectors))
         × (4096 ≤ length (now targets)) ⌝ }
-    requires { ⌜ Indexed (now numbers) n (now links) ⌝ }
-    ensures { λ f. ⌜ ObjectionSettled (now (numbers .entry)) (now (marks .entry)) (now (objectors .entry)) (now (targets .entry)) n m
-        objection f (now (marks .exit)) (now (objectors .exit)) (now (targets .exit)) ⌝ }
+    requires { ⌜ Indexed (now numbers) n (now links) × Chains n m (now objectors) (now targets) ⌝ }
+    ensures { λ f. ⌜ ObjectionSettled (now (numbers .entry)) (now (marks .entry)) (objectorsIn (now (objectors .entry)))
+        (targetsIn (now (objectors .entry))) n m objection f (now (marks .exit)) (objectorsIn (now (objectors .exit)))
+        (targetsIn (now (objectors .exit))) × Chains n (cond (eqb f 0) (m + 1) m) (now (objectors .exit)) (now (targets .exit)) ⌝ }
 {
     let target = objection.target;
     let x = index::look_up(numbers, n, links, target);
@@ -65,14 +70,13 @@ pub fn settle_objection(
         marks[x] = 1; // whether its objector stands, nobody can tell
         return 7;
     }
-    if pairs::pair_at(objectors, targets, m, y as u32, x as u32) < m {
+    if repeats::pair_at(objectors, targets, n, m, y, x) < m {
         return 8;
     }
     if m >= 4096 {
         marks[x] = 1; // what is past the limit still speaks against it
         return 9;
     }
-    objectors[m] = y as u32;
-    targets[m] = x as u32;
+    repeats::enter(objectors, targets, n, m, y, x);
     0
 }

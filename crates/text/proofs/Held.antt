@@ -115,3 +115,16 @@ module _ (R : Register) (o : ObjectionLine) where
       more room e v nos nos′ l t w u =
           take-more room m e l ∙ ap (λ z. z ++ (e ∷ [])) t ∙ ap (λ z. map (placeOf (numbers R)) nos ++ (z ∷ [])) (sym w)
           ∙ sym (map-append (placeOf (numbers R)) nos (v ∷ [])) ∙ ap (map (placeOf (numbers R))) (sym u)
+
+-- The rooms hold the same where they begin with the same objections.
+pub holds-back : (R : Register) (n m : ℕ) (nums marks objectors targets objectors′ targets′ : List ℕ)
+    → Holds R n m nums marks objectors targets → take m objectors′ ≡ take m objectors → take m targets′ ≡ take m targets
+    → Holds R n m nums marks objectors′ targets′
+holds-back R n m nums marks objectors targets objectors′ targets′ h p q = record {
+  statements = h .statements;
+  objections = h .objections;
+  numbers-are = h .numbers-are;
+  marks-are = h .marks-are;
+  objectors-are = p ∙ h .objectors-are;
+  targets-are = q ∙ h .targets-are;
+}

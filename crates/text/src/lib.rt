@@ -12,6 +12,9 @@ ghost use lib.ListN.{length, getD};
 ghost use Rattle.game.specs.Find.{Found};
 ghost use Rattle.index.specs.Indexed.{Indexed};
 ghost use Rattle.register.specs.Reads.{NotEnded};
+ghost use Rattle.linked.specs.Linked.{objectorsIn, targetsIn};
+ghost use Rattle.repeats.specs.Chains.{Chains};
+ghost use Rattle.text.specs.declared.Taken.the-variants.{Kept};
 ghost use Rattle.text.specs.State.{Spacious, ReadsTo, StatementTaken, ObjectionTaken, InStep};
 
 // The number of statements and of objections, now in the rooms.
@@ -98,9 +101,10 @@ fn take_objection(
 ) -> Taken
     requires { ⌜ (n ≤ 1024) × (m ≤ 4096) × (1024 ≤ length (now numbers)) × (4096 ≤ length (now objectors))
         × (4096 ≤ length (now targets)) ⌝ }
-    requires { ⌜ Indexed (now numbers) n (now links) ⌝ }
-    ensures { λ t. ⌜ ObjectionTaken (now (numbers .entry)) (now (objectors .entry)) (now (targets .entry)) n m objection «line_no»
-        (now (objectors .exit)) (now (targets .exit)) t ⌝ }
+    requires { ⌜ Indexed (now numbers) n (now links) × (0 < m → Chains n m (now objectors) (now targets)) ⌝ }
+    ensures { λ t. ⌜ ObjectionTaken (now (numbers .entry)) (objectorsIn (now (objectors .entry))) (targetsIn (now (objectors .entry)))
+        n m objection «line_no» (objectorsIn (now (objectors .exit))) (targetsIn (now (objectors .exit))) t
+        × (t ≡ Kept → Chains n (m + 1) (now (objectors .exit)) (now (targets .exit))) ⌝ }
 {
     if m >= 4096 {
         return Taken::AtFault(Refusal::Objections(line_no));
@@ -115,11 +119,11 @@ fn take_objection(
     if x >= n {
         return Taken::AtFault(Refusal::Unknown(line_no));
     }
-    if pairs::pair_at(objectors, targets, m, y as u32, x as u32) < m {
+    repeats::begin(objectors, targets, n, m);
+    if repeats::pair_at(objectors, targets, n, m, y, x) < m {
         return Taken::AtFault(Refusal::Repeated(line_no));
     }
-    objectors[m] = y as u32;
-    targets[m] = x as u32;
+    repeats::enter(objectors, targets, n, m, y, x);
     Taken::Kept
 }
 
@@ -175,6 +179,7 @@ fn read_lines(
             }
         }
     }
+    repeats::give_back(objectors, targets, m);
     Reading::Whole(n, m)
 }
 

@@ -2,14 +2,13 @@
 use mathlib.Core.Path.{_∙_, ap}
 use native.Mathlib.Omega.{arith}
 use Rattle.line.specs.declared.Line.{Line}
+use Rattle.linked.specs.Linked.{objectorsIn, targetsIn}
+use Rattle.linked.proofs.Views.{objectors-length, targets-length}
 use Rattle.mending.specs.declared.AnyLine.the-variants.{Good}
 use Rattle.mending.proofs.Passing.{over-unended, over-spoiled, over-statement, over-objection}
 use borrow.Author.Needs.{needs}
 use Rattle.mending.proofs.pass_objection.Statement.{statement}
 use Rattle.mending.proofs.pass_objection.Tie as tie
-use Rattle.mending.proofs.any_line.Reads as any-line-reads
-use Rattle.mending.proofs.kept.Reads as kept-reads
-use Rattle.settling.proofs.settle_objection.Reads as settle-objection-reads
 
 any-line-requires : tie.Need-any-line-requires
 any-line-requires c κs = search needs
@@ -42,29 +41,41 @@ returns : tie.Need-returns
 returns c =
     let read = c .before .before in
     let args = read .before .before .before .before .before .before .before .before .args in
-    let pre = read .before .before .before .before .before .before .before .before .pre in
-    λ ls R lines valid holds. over-unended (args .text .now) (args .at) ls lines R (args .n) (args .m) (args .numbers .now)
-    (args .marks .now) (args .objectors .now) (args .targets .now) holds valid (args .fates .now) (args .k) (pre .0 .0)
-    (rw (c .enum-told .given .1) at (read .any-line .ensures))
+    let pre = read .before .before .before .before .before .before .before .before .pre in (
+      (
+          λ ls R lines valid holds. over-unended (args .text .now) (args .at) ls lines R (args .n) (args .m) (args .numbers .now)
+          (args .marks .now) (objectorsIn (args .objectors .now)) (targetsIn (args .objectors .now)) holds valid (args .fates .now) (args .k) (pre .0 .0)
+          (rw (c .enum-told .given .1) at (read .any-line .ensures))
+          ),
+      pre .1 .2,
+    )
 
 returns-2 : tie.Need-returns-2
 returns-2 c =
     let next = c .before .next in
     let read = c .before .before .before in
-    let args = read .before .before .before .before .before .before .before .before .args in
-    λ ls R lines valid holds. over-spoiled (args .text .now) (args .at) ls lines R (args .n) (args .m) (args .numbers .now)
-    (args .marks .now) (args .objectors .now) (args .targets .now) holds valid (args .fates .now) (args .k) (next .given .0 .0)
-    (rw (next .given .1) at (read .any-line .ensures))
+    let args = read .before .before .before .before .before .before .before .before .args in (
+      (
+          λ ls R lines valid holds. over-spoiled (args .text .now) (args .at) ls lines R (args .n) (args .m) (args .numbers .now)
+          (args .marks .now) (objectorsIn (args .objectors .now)) (targetsIn (args .objectors .now)) holds valid (args .fates .now) (args .k) (next .given .0 .0)
+          (rw (next .given .1) at (read .any-line .ensures))
+          ),
+      c .before .before .before .before .before .before .before .before .before .before .before .pre .1 .2,
+    )
 
 returns-3 : tie.Need-returns-3
 returns-3 c =
     let told = c .enum-told2 in
     let line = c .before .before .before .line in
     let read = c .before .before .before .before .before in
-    let args = read .before .before .before .before .before .before .before .before .args in
-    λ ls R lines valid holds. over-statement (args .text .now) (args .at) ls lines R (args .n) (args .m) (args .numbers .now)
-    (args .marks .now) (args .objectors .now) (args .targets .now) holds valid (args .fates .now) (args .k) (told .given .0 .0) (line .given .0 .1 .0)
-    (rw (line .given .1 ∙ ap (λ (l : Line). Good l (line .given .0 .1 .0)) (told .given .1)) at (read .any-line .ensures))
+    let args = read .before .before .before .before .before .before .before .before .args in (
+      (
+          λ ls R lines valid holds. over-statement (args .text .now) (args .at) ls lines R (args .n) (args .m) (args .numbers .now)
+          (args .marks .now) (objectorsIn (args .objectors .now)) (targetsIn (args .objectors .now)) holds valid (args .fates .now) (args .k) (told .given .0 .0) (line .given .0 .1 .0)
+          (rw (line .given .1 ∙ ap (λ (l : Line). Good l (line .given .0 .1 .0)) (told .given .1)) at (read .any-line .ensures))
+          ),
+      c .before .before .before .before .before .before .before .before .before .before .before .before .before .pre .1 .2,
+    )
 
 same-length : tie.Need-same-length
 same-length c = search needs
@@ -86,12 +97,17 @@ returns-4 c =
     let line = told .before .before .before .line in
     let read = told .before .before .before .before .before in
     let args = read .before .before .before .before .before .before .before .before .args in
-    let pre = read .before .before .before .before .before .before .before .before .pre in
-    λ ls R lines valid holds. over-objection (args .text .now) (args .at) ls lines R (args .n) (args .m) (args .numbers .now)
-    (args .marks .now) (args .objectors .now) (args .targets .now) holds valid (args .fates .now) (args .k) (told .line2 .given .0 .0) (line .given .0 .1 .0)
-    (rw (line .given .1 ∙ ap (λ (l : Line). Good l (line .given .0 .1 .0)) (told .line2 .given .1)) at (read .any-line .ensures))
-    (omega (arith, pre .0 .2, pre .0 .4)) (pre .1 .0 .0) (pre .1 .0 .1) (settle .result) _ _ _ (settle .ensures) (c .kept .result)
-    (c .kept .ensures)
+    let pre = read .before .before .before .before .before .before .before .before .pre in (
+      (
+          λ ls R lines valid holds. over-objection (args .text .now) (args .at) ls lines R (args .n) (args .m) (args .numbers .now)
+          (args .marks .now) (objectorsIn (args .objectors .now)) (targetsIn (args .objectors .now)) holds valid (args .fates .now) (args .k) (told .line2 .given .0 .0) (line .given .0 .1 .0)
+          (rw (line .given .1 ∙ ap (λ (l : Line). Good l (line .given .0 .1 .0)) (told .line2 .given .1)) at (read .any-line .ensures))
+          (omega (arith, pre .0 .2, pre .0 .4)) (omega (arith, pre .1 .0 .0, objectors-length (args .objectors .now)))
+          (omega (arith, pre .1 .0 .0, targets-length (args .objectors .now))) (settle .result) _ _ _ (settle .ensures .0) (c .kept .result)
+          (c .kept .ensures)
+          ),
+      rw (c .kept .ensures) (settle .ensures .1),
+    )
 
 pub pass-objection-spec : {M : Type 1} → statement M
 pass-objection-spec =

@@ -2,7 +2,7 @@
 use native.Mathlib.Omega.{arith}
 use Rattle.pairs.specs.Refuses.{BadMark, BadPlace, Repeat}
 use Rattle.game.proofs.Find.{found-first, found-clear}
-use Rattle.pairs.proofs.Laws.{accepted}
+use Rattle.pairs.proofs.Laws.{in-order, accepted}
 use borrow.Author.Needs.{needs}
 use Rattle.pairs.proofs.check.Statement.{statement}
 use Rattle.pairs.proofs.check.Tie as tie
@@ -43,7 +43,17 @@ returns-5 c =
     )
 
 repeated-requires : tie.Need-repeated-requires
-repeated-requires c κs = search needs
+repeated-requires c κs =
+    let args = c .before .before .before .before .before .before .before .before .before .before .args in
+    let marks = args .marks .now in
+    record {
+      few-marks = omega arith;
+      few-pairs = omega arith;
+      order =
+          in-order _ _ _ (omega arith) (found-clear (BadMark marks) _ _ (λ j p. p .0) (c .before .before .before .bad-mark .ensures)
+          (c .before .before .if4 .left)) (found-clear (BadPlace marks (args .objectors .now) (args .targets .now)) _ _ (λ j p. p .0)
+          (c .before .bad-place .ensures) (c .if5 .left));
+    }
 
 cast-t17 : tie.Need-cast-t17
 cast-t17 c = search needs

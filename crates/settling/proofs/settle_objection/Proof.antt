@@ -5,15 +5,15 @@ use native.Mathlib.Omega.{arith}
 use borrow.Author.Needs.{needs}
 use Rattle.settling.proofs.settle_objection.Statement.{statement}
 use Rattle.settling.proofs.settle_objection.Tie as tie
-use Rattle.index.proofs.look_up.Reads as look-up-reads
-use Rattle.pairs.proofs.pair_at.Reads as pair-at-reads
 
 look-up-requires : tie.Need-look-up-requires
 look-up-requires c κs = search needs
 
 returns : tie.Need-returns
-returns c =
-    inl (refl, (λ i l. c .before .look-up .ensures .1 i (omega (arith, c .if1 .taken))), refl, refl, refl)
+returns c = (
+  inl (refl, (λ i l. c .before .look-up .ensures .1 i (omega (arith, c .if1 .taken))), refl, refl, refl),
+  c .before .before .before .before .before .before .before .pre .1 .1,
+)
 
 look-up-requires-2 : tie.Need-look-up-requires-2
 look-up-requires-2 c κs = search needs
@@ -27,20 +27,16 @@ same-length c = search needs
 returns-2 : tie.Need-returns-2
 returns-2 c =
     let look-up = c .before .before .before .look-up in
-    let if1 = c .before .before .if1 in
-    inr (inl (
-      refl,
-      (λ i l. c .before .look-up2 .ensures .1 i (omega (arith, c .if2 .taken))),
-      (look-up .result, (if1 .left, look-up .ensures .2 (if1 .left)), refl),
-      refl,
-      refl,
-    ))
-
-cast-pair-at : tie.Need-cast-pair-at
-cast-pair-at c = search needs
-
-cast-pair-at-2 : tie.Need-cast-pair-at-2
-cast-pair-at-2 c = search needs
+    let if1 = c .before .before .if1 in (
+      inr (inl (
+        refl,
+        (λ i l. c .before .look-up2 .ensures .1 i (omega (arith, c .if2 .taken))),
+        (look-up .result, (if1 .left, look-up .ensures .2 (if1 .left)), refl),
+        refl,
+        refl,
+      )),
+      c .before .before .before .before .before .before .before .before .before .pre .1 .1,
+    )
 
 pair-at-requires : tie.Need-pair-at-requires
 pair-at-requires c κs = search needs
@@ -58,24 +54,26 @@ returns-3 c =
     let if2 = c .before .before .before .before .if2 in
     let if1 = c .before .before .before .before .before .before .if1 in
     let pair-at = c .before .pair-at in
-    let if3 = c .if3 in
-    inr (inr (inl (
-      refl,
-      (
-        look-up2 .result,
-        look-up .result,
-        record {
-          objector = (if2 .left, look-up2 .ensures .2 (if2 .left));
-          objector-first = look-up2 .ensures .1;
-          target = (if1 .left, look-up .ensures .2 (if1 .left));
-          target-first = look-up .ensures .1;
-        },
-        (pair-at .result, if3 .taken, pair-at .ensures .2 (if3 .taken) .0, pair-at .ensures .2 (if3 .taken) .1),
-      ),
-      refl,
-      refl,
-      refl,
-    )))
+    let if3 = c .if3 in (
+      inr (inr (inl (
+        refl,
+        (
+          look-up2 .result,
+          look-up .result,
+          record {
+            objector = (if2 .left, look-up2 .ensures .2 (if2 .left));
+            objector-first = look-up2 .ensures .1;
+            target = (if1 .left, look-up .ensures .2 (if1 .left));
+            target-first = look-up .ensures .1;
+          },
+          (pair-at .result, if3 .taken, pair-at .ensures .2 (if3 .taken) .0, pair-at .ensures .2 (if3 .taken) .1),
+        ),
+        refl,
+        refl,
+        refl,
+      ))),
+      c .before .before .before .before .before .before .before .before .before .before .before .before .before .pre .1 .1,
+    )
 
 slice-write-marks-2 : tie.Need-slice-write-marks-2
 slice-write-marks-2 c = search needs
@@ -94,43 +92,31 @@ returns-4 c =
     let look-up2 = c .before .before .before .before .before .before .look-up2 in
     let look-up = c .before .before .before .before .before .before .before .before .look-up in
     let if2 = c .before .before .before .before .before .if2 in
-    let if1 = c .before .before .before .before .before .before .before .if1 in
-    inr (inr (inr (inl (
-      refl,
-      c .if4 .taken,
-      (
-        look-up2 .result,
-        look-up .result,
-        record {
-          objector = (if2 .left, look-up2 .ensures .2 (if2 .left));
-          objector-first = look-up2 .ensures .1;
-          target = (if1 .left, look-up .ensures .2 (if1 .left));
-          target-first = look-up .ensures .1;
-        },
-        (λ j l a b. c .before .before .pair-at .ensures .1 j (omega (arith, c .before .if3 .left)) (a, b)),
+    let if1 = c .before .before .before .before .before .before .before .if1 in (
+      inr (inr (inr (inl (
         refl,
-      ),
-      refl,
-      refl,
-    ))))
+        c .if4 .taken,
+        (
+          look-up2 .result,
+          look-up .result,
+          record {
+            objector = (if2 .left, look-up2 .ensures .2 (if2 .left));
+            objector-first = look-up2 .ensures .1;
+            target = (if1 .left, look-up .ensures .2 (if1 .left));
+            target-first = look-up .ensures .1;
+          },
+          (λ j l a b. c .before .before .pair-at .ensures .1 j (omega (arith, c .before .if3 .left)) (a, b)),
+          refl,
+        ),
+        refl,
+        refl,
+      )))),
+      c .before .before .before .before .before .before .before .before .before .before .before .before .before .before .pre .1 .1,
+    )
 
-cast-objectors : tie.Need-cast-objectors
-cast-objectors c = search needs
-
-mul-objectors : tie.Need-mul-objectors
-mul-objectors c = search needs
-
-slice-write-objectors : tie.Need-slice-write-objectors
-slice-write-objectors c = search needs
-
-cast-targets : tie.Need-cast-targets
-cast-targets c = search needs
-
-mul-targets : tie.Need-mul-targets
-mul-targets c = search needs
-
-slice-write-targets : tie.Need-slice-write-targets
-slice-write-targets c = search needs
+enter-requires : tie.Need-enter-requires
+enter-requires c κs =
+    ((c .before .before .before .before .before .before .before .before .before .before .before .before .before .before .before .before .pre .1 .1, c .before .before .if4 .left, c .before .before .before .before .before .before .before .if2 .left, c .before .before .before .before .before .before .before .before .before .if1 .left), λ e h. c .before .before .before .before .pair-at .ensures .1 e (omega (arith, c .before .before .before .if3 .left)))
 
 same-length-7 : tie.Need-same-length-7
 same-length-7 c = search needs
@@ -140,28 +126,31 @@ same-length-8 c = search needs
 
 returns-5 : tie.Need-returns-5
 returns-5 c =
-    let look-up2 = c .before .before .before .before .before .before .look-up2 in
-    let look-up = c .before .before .before .before .before .before .before .before .look-up in
-    let if2 = c .before .before .before .before .before .if2 in
-    let if1 = c .before .before .before .before .before .before .before .if1 in
-    inr (inr (inr (inr (
-      refl,
-      c .if4 .left,
-      (
-        look-up2 .result,
-        look-up .result,
-        record {
-          objector = (if2 .left, look-up2 .ensures .2 (if2 .left));
-          objector-first = look-up2 .ensures .1;
-          target = (if1 .left, look-up .ensures .2 (if1 .left));
-          target-first = look-up .ensures .1;
-        },
-        (λ j l a b. c .before .before .pair-at .ensures .1 j (omega (arith, c .before .if3 .left)) (a, b)),
+    let look-up2 = c .before .before .before .before .before .before .before .before .before .before .before .before .before .look-up2 in
+    let look-up = c .before .before .before .before .before .before .before .before .before .before .before .before .before .before .before .look-up in
+    let if2 = c .before .before .before .before .before .before .before .before .before .before .before .before .if2 in
+    let if1 = c .before .before .before .before .before .before .before .before .before .before .before .before .before .before .if1 in
+    let enter = c .before .before .before .before .enter in (
+      inr (inr (inr (inr (
         refl,
+        c .before .before .before .before .before .before .before .if4 .left,
+        (
+          look-up2 .result,
+          look-up .result,
+          record {
+            objector = (if2 .left, look-up2 .ensures .2 (if2 .left));
+            objector-first = look-up2 .ensures .1;
+            target = (if1 .left, look-up .ensures .2 (if1 .left));
+            target-first = look-up .ensures .1;
+          },
+          (λ j l a b. c .before .before .before .before .before .before .before .before .before .pair-at .ensures .1 j (omega (arith, c .before .before .before .before .before .before .before .before .if3 .left)) (a, b)),
+          enter .ensures .1,
+          enter .ensures .2,
+        ),
         refl,
-      ),
-      refl,
-    ))))
+      )))),
+      enter .ensures .0,
+    )
 
 pub settle-objection-spec : {M : Type 1} → statement M
 settle-objection-spec =
@@ -173,8 +162,6 @@ settle-objection-spec =
     slice-write-marks
     same-length
     returns-2
-    cast-pair-at
-    cast-pair-at-2
     pair-at-requires
     same-length-2
     same-length-3
@@ -184,12 +171,7 @@ settle-objection-spec =
     same-length-5
     same-length-6
     returns-4
-    cast-objectors
-    mul-objectors
-    slice-write-objectors
-    cast-targets
-    mul-targets
-    slice-write-targets
+    enter-requires
     same-length-7
     same-length-8
     returns-5)

@@ -1,7 +1,7 @@
 -- `read_lines`: the invariant is that the lines passed are a register in order, which the rooms hold, and that its numbers
 -- are indexed.
 use mathlib.Core.Path.{_≡_, refl, ap, _∙_}
-use Prim.Native.Nat.{_-_}
+use Prim.Native.Nat.{_-_, _<_}
 use native.Mathlib.Omega.{arith}
 use lib.ListN.{length}
 use Rattle.index.specs.Indexed.{Indexed}
@@ -9,6 +9,10 @@ use Rattle.line.specs.Lines.{GotAt}
 use Rattle.line.specs.declared.Line.{Line}
 use Rattle.line.specs.declared.Line.the-variants.{Statement, Objection}
 use Rattle.line.specs.declared.Got.the-variants.{Good}
+use Rattle.linked.specs.Linked.{objectorsIn, targetsIn}
+use Rattle.linked.proofs.Views.{objectors-length, targets-length}
+use Rattle.repeats.specs.Chains.{Chains}
+use Rattle.text.proofs.Held.{holds-back}
 use Rattle.text.proofs.Reader.{Inv, start, few, whole, spoiled, statement-fault, objection-fault, statement-kept, objection-kept}
 use borrow.Author.Needs.{needs}
 use Rattle.text.proofs.read_lines.Statement.{statement}
@@ -16,9 +20,9 @@ use Rattle.text.proofs.read_lines.Tie as tie
 
 abbrev Inv-loop : tie.InvT-loop
 Inv-loop text numbers₀ marks₀ objectors₀ targets₀ links₀ at₀ n₀ m₀ numbers marks objectors targets links at n m =
-    Inv text at n m numbers marks objectors targets × (length numbers ≡ length numbers₀) × (length marks ≡ length marks₀)
+    Inv text at n m numbers marks (objectorsIn objectors) (targetsIn objectors) × (length numbers ≡ length numbers₀) × (length marks ≡ length marks₀)
     × (length objectors ≡ length objectors₀) × (length targets ≡ length targets₀) × (length links ≡ length links₀)
-    × Indexed numbers n links
+    × Indexed numbers n links × (0 < m → Chains n m objectors targets)
 
 abbrev μ-loop : tie.MeasureT-loop
 μ-loop text numbers₀ marks₀ objectors₀ targets₀ links₀ at₀ n₀ m₀ numbers marks objectors targets links at n m =
@@ -27,7 +31,7 @@ abbrev μ-loop : tie.MeasureT-loop
 loop-holds : tie.Need-loop-holds Inv-loop μ-loop
 loop-holds c =
     let pre = c .before .before .before .before .before .before .pre in
-    (start _ _ _ _ _, refl, refl, refl, refl, refl, pre .1 .1)
+    (start _ _ _ _ _, refl, refl, refl, refl, refl, pre .1 .1, λ h. absurd (omega arith))
 
 add-line-no : tie.Need-add-line-no Inv-loop μ-loop
 add-line-no c =
@@ -35,7 +39,7 @@ add-line-no c =
     omega (
       arith,
       few (args .text .now) (c .before .loop .at) (c .before .loop .n) (c .before .loop .m) (c .before .loop .numbers)
-          (c .before .loop .marks) (c .before .loop .objectors) (c .before .loop .targets) (c .before .loop .inv .0),
+          (c .before .loop .marks) (objectorsIn (c .before .loop .objectors)) (targetsIn (c .before .loop .objectors)) (c .before .loop .inv .0),
     )
 
 add-line-no-2 : tie.Need-add-line-no-2 Inv-loop μ-loop
@@ -44,7 +48,7 @@ add-line-no-2 c =
     omega (
       arith,
       few (args .text .now) (c .before .loop .at) (c .before .loop .n) (c .before .loop .m) (c .before .loop .numbers)
-          (c .before .loop .marks) (c .before .loop .objectors) (c .before .loop .targets) (c .before .loop .inv .0),
+          (c .before .loop .marks) (objectorsIn (c .before .loop .objectors)) (targetsIn (c .before .loop .objectors)) (c .before .loop .inv .0),
     )
 
 cast-line-no : tie.Need-cast-line-no Inv-loop μ-loop
@@ -53,7 +57,7 @@ cast-line-no c =
     omega (
       arith,
       few (args .text .now) (c .before .loop .at) (c .before .loop .n) (c .before .loop .m) (c .before .loop .numbers)
-          (c .before .loop .marks) (c .before .loop .objectors) (c .before .loop .targets) (c .before .loop .inv .0),
+          (c .before .loop .marks) (objectorsIn (c .before .loop .objectors)) (targetsIn (c .before .loop .objectors)) (c .before .loop .inv .0),
     )
 
 line-from-requires : tie.Need-line-from-requires Inv-loop μ-loop
@@ -85,7 +89,7 @@ returns c =
     let args = c .before .before .before .before .before .before .before .before .before .before .before .args in
     let pre = c .before .before .before .before .before .before .before .before .before .before .before .pre in
     let loop = c .before .before .before .before .loop in
-    spoiled (args .text .now) (loop .at) (loop .n) (loop .m) (loop .numbers) (loop .marks) (loop .objectors) (loop .targets)
+    spoiled (args .text .now) (loop .at) (loop .n) (loop .m) (loop .numbers) (loop .marks) (objectorsIn (loop .objectors)) (targetsIn (loop .objectors))
     (loop .inv .0) (pre .0 .0) (pre .0 .1) (c .before .before .before .loop-test .taken)
     (rw (c .enum-told .given .1) at (c .before .before .line-from .ensures))
 
@@ -97,7 +101,7 @@ take-statement-requires c κs =
     let args = c .before .before .before .before .before .before .before .before .before .before .before .before .before .before .before .before .before .before .args in
     let pre = c .before .before .before .before .before .before .before .before .before .before .before .before .before .before .before .before .before .before .pre in
     let loop = c .before .before .before .before .before .before .before .before .before .before .before .loop in
-    let f = few (args .text .now) (loop .at) (loop .n) (loop .m) (loop .numbers) (loop .marks) (loop .objectors) (loop .targets)
+    let f = few (args .text .now) (loop .at) (loop .n) (loop .m) (loop .numbers) (loop .marks) (objectorsIn (loop .objectors)) (targetsIn (loop .objectors))
     (loop .inv .0) in (
       (
         f .0,
@@ -150,7 +154,7 @@ returns-2 c =
     let text = args .text .now in
     let got : GotAt text (loop .at) (Good (Statement (line2 .given .0 .0)) (line .given .0 .1 .0)) = rw
     (line .given .1 ∙ ap (λ (l : Line). Good l (line .given .0 .1 .0)) (line2 .given .1)) at (line-from .ensures) in
-    statement-fault text (loop .at) (loop .n) (loop .m) (loop .numbers) (loop .marks) (loop .objectors) (loop .targets)
+    statement-fault text (loop .at) (loop .n) (loop .m) (loop .numbers) (loop .marks) (objectorsIn (loop .objectors)) (targetsIn (loop .objectors))
     (loop .inv .0) (pre .0 .0) (pre .0 .1) (line2 .given .0 .0) (line .given .0 .1 .0) got (c .before .taken .given .0 .0)
     (loop .numbers) (loop .marks) (rw (c .before .taken .given .1) at (take-statement .ensures .0))
 
@@ -163,8 +167,8 @@ add-n c =
     let loop = c .before .before .before .before .before .before .before .before .before .before .before .before .before .before .before .before .before .before .before .before .loop in
     omega (
       arith,
-      few (args .text .now) (loop .at) (loop .n) (loop .m) (loop .numbers) (loop .marks) (loop .objectors)
-          (loop .targets) (loop .inv .0),
+      few (args .text .now) (loop .at) (loop .n) (loop .m) (loop .numbers) (loop .marks) (objectorsIn (loop .objectors))
+          (targetsIn (loop .objectors)) (loop .inv .0),
     )
 
 loop-less : tie.Need-loop-less Inv-loop μ-loop
@@ -190,7 +194,7 @@ loop-again c =
     let text = args .text .now in
     let got : GotAt text (loop .at) (Good (Statement (line2 .given .0 .0)) (line .given .0 .1 .0)) = rw
     (line .given .1 ∙ ap (λ (l : Line). Good l (line .given .0 .1 .0)) (line2 .given .1)) at (line-from .ensures) in (
-      statement-kept text (loop .at) (loop .n) (loop .m) (loop .numbers) (loop .marks) (loop .objectors) (loop .targets)
+      statement-kept text (loop .at) (loop .n) (loop .m) (loop .numbers) (loop .marks) (objectorsIn (loop .objectors)) (targetsIn (loop .objectors))
           (loop .inv .0) (line2 .given .0 .0) (line .given .0 .1 .0) _ _ (omega (arith, loop .inv .1, pre .1 .0 .numbers-room))
           (omega (arith, loop .inv .2, pre .1 .0 .marks-room)) got (rw (c .enum-told2 .given .1) at (take-statement .ensures .0)),
       take-statement .kept .0 ∙ loop .inv .1,
@@ -199,6 +203,7 @@ loop-again c =
       loop .inv .4,
       take-statement .kept .1 .1 .0 ∙ loop .inv .5,
       rw (c .enum-told2 .given .1) at (take-statement .ensures .1),
+      λ h. absurd (omega (arith, (rw (c .enum-told2 .given .1) at (take-statement .ensures .0)) .0)),
     )
 
 enum-known-line-3 : tie.Need-enum-known-line-3 Inv-loop μ-loop
@@ -209,7 +214,7 @@ take-objection-requires c κs =
     let args = c .before .before .before .before .before .before .before .before .before .before .before .before .before .before .before .before .before .before .before .args in
     let pre = c .before .before .before .before .before .before .before .before .before .before .before .before .before .before .before .before .before .before .before .pre in
     let loop = c .before .before .before .before .before .before .before .before .before .before .before .before .loop in
-    let f = few (args .text .now) (loop .at) (loop .n) (loop .m) (loop .numbers) (loop .marks) (loop .objectors) (loop .targets)
+    let f = few (args .text .now) (loop .at) (loop .n) (loop .m) (loop .numbers) (loop .marks) (objectorsIn (loop .objectors)) (targetsIn (loop .objectors))
     (loop .inv .0) in (
       (
         f .0,
@@ -218,7 +223,7 @@ take-objection-requires c κs =
         omega (arith, loop .inv .3, pre .1 .0 .objectors-room),
         omega (arith, loop .inv .4, pre .1 .0 .targets-room),
       ),
-      loop .inv .6,
+      (loop .inv .6, loop .inv .7),
     )
 
 enum-known-taken-2 : tie.Need-enum-known-taken-2 Inv-loop μ-loop
@@ -263,9 +268,9 @@ returns-3 c =
     let text = args .text .now in
     let got : GotAt text (loop .at) (Good (Objection (line3 .given .0 .0)) (line .given .0 .1 .0)) = rw
     (line .given .1 ∙ ap (λ (l : Line). Good l (line .given .0 .1 .0)) (line3 .given .1)) at (line-from .ensures) in
-    objection-fault text (loop .at) (loop .n) (loop .m) (loop .numbers) (loop .marks) (loop .objectors) (loop .targets)
+    objection-fault text (loop .at) (loop .n) (loop .m) (loop .numbers) (loop .marks) (objectorsIn (loop .objectors)) (targetsIn (loop .objectors))
     (loop .inv .0) (pre .0 .0) (pre .0 .1) (line3 .given .0 .0) (line .given .0 .1 .0) got (c .before .taken2 .given .0 .0)
-    (loop .objectors) (loop .targets) (rw (c .before .taken2 .given .1) at (take-objection .ensures))
+    (objectorsIn (loop .objectors)) (targetsIn (loop .objectors)) (rw (c .before .taken2 .given .1) at (take-objection .ensures .0))
 
 enum-told-3 : tie.Need-enum-told-3 Inv-loop μ-loop
 enum-told-3 c = search needs
@@ -276,8 +281,8 @@ add-m c =
     let loop = c .before .before .before .before .before .before .before .before .before .before .before .before .before .before .before .before .before .before .before .loop in
     omega (
       arith,
-      few (args .text .now) (loop .at) (loop .n) (loop .m) (loop .numbers) (loop .marks) (loop .objectors)
-          (loop .targets) (loop .inv .0),
+      few (args .text .now) (loop .at) (loop .n) (loop .m) (loop .numbers) (loop .marks) (objectorsIn (loop .objectors))
+          (targetsIn (loop .objectors)) (loop .inv .0),
     )
 
 loop-less-2 : tie.Need-loop-less-2 Inv-loop μ-loop
@@ -303,9 +308,9 @@ loop-again-2 c =
     let text = args .text .now in
     let got : GotAt text (loop .at) (Good (Objection (line3 .given .0 .0)) (line .given .0 .1 .0)) = rw
     (line .given .1 ∙ ap (λ (l : Line). Good l (line .given .0 .1 .0)) (line3 .given .1)) at (line-from .ensures) in (
-      objection-kept text (loop .at) (loop .n) (loop .m) (loop .numbers) (loop .marks) (loop .objectors) (loop .targets)
-          (loop .inv .0) (line3 .given .0 .0) (line .given .0 .1 .0) _ _ (omega (arith, loop .inv .3, pre .1 .0 .objectors-room))
-          (omega (arith, loop .inv .4, pre .1 .0 .targets-room)) got (rw (c .enum-told3 .given .1) at (take-objection .ensures)),
+      objection-kept text (loop .at) (loop .n) (loop .m) (loop .numbers) (loop .marks) (objectorsIn (loop .objectors)) (targetsIn (loop .objectors))
+          (loop .inv .0) (line3 .given .0 .0) (line .given .0 .1 .0) _ _ (omega (arith, loop .inv .3, pre .1 .0 .objectors-room, objectors-length (loop .objectors)))
+          (omega (arith, loop .inv .3, pre .1 .0 .objectors-room, targets-length (loop .objectors))) got (rw (c .enum-told3 .given .1) at (take-objection .ensures .0)),
       loop .inv .1,
       loop .inv .2,
       take-objection .kept .1 .1 .0 ∙ loop .inv .3,
@@ -313,30 +318,47 @@ loop-again-2 c =
           ∙ loop .inv .4,
       loop .inv .5,
       loop .inv .6,
+      λ _. take-objection .ensures .1 (c .enum-told3 .given .1),
+    )
+
+give-back-requires : tie.Need-give-back-requires Inv-loop μ-loop
+give-back-requires c κs =
+    let start = c .before .before .before .before .before .before .before .before .before .before in
+    let loop = c .before .before .before .loop in
+    let fits = few (start .args .text .now) (loop .at) (loop .n) (loop .m) (loop .numbers) (loop .marks) (objectorsIn (loop .objectors))
+    (targetsIn (loop .objectors)) (loop .inv .0) in (
+      omega (arith, fits .1, loop .inv .3, start .pre .1 .0 .objectors-room),
+      omega (arith, fits .1, loop .inv .4, start .pre .1 .0 .targets-room),
     )
 
 same-length-16 : tie.Need-same-length-16 Inv-loop μ-loop
-same-length-16 c = c .before .loop .inv .1
+same-length-16 c = c .before .before .before .before .before .before .before .before .loop .inv .1
 
 same-length-17 : tie.Need-same-length-17 Inv-loop μ-loop
-same-length-17 c = c .before .loop .inv .2
+same-length-17 c = c .before .before .before .before .before .before .before .before .loop .inv .2
 
 same-length-18 : tie.Need-same-length-18 Inv-loop μ-loop
-same-length-18 c = c .before .loop .inv .3
+same-length-18 c = c .before .before .before .before .give-back .kept .0 ∙ c .before .before .before .before .before .before .before .before .loop .inv .3
 
 same-length-19 : tie.Need-same-length-19 Inv-loop μ-loop
-same-length-19 c = c .before .loop .inv .4
+same-length-19 c = c .before .before .before .before .give-back .kept .1 .0 ∙ c .before .before .before .before .before .before .before .before .loop .inv .4
 
 same-length-20 : tie.Need-same-length-20 Inv-loop μ-loop
-same-length-20 c = c .before .loop .inv .5
+same-length-20 c = c .before .before .before .before .before .before .before .before .loop .inv .5
 
 returns-4 : tie.Need-returns-4 Inv-loop μ-loop
 returns-4 c =
-    let args = c .before .before .before .before .before .before .before .before .args in
-    let pre = c .before .before .before .before .before .before .before .before .pre in
-    whole (args .text .now) (c .before .loop .at) (c .before .loop .n) (c .before .loop .m) (c .before .loop .numbers)
-    (c .before .loop .marks) (c .before .loop .objectors) (c .before .loop .targets) (c .before .loop .inv .0) (pre .0 .0)
-    (c .loop-test .left)
+    let start = c .before .before .before .before .before .before .before .before .before .before .before .before .before .before .before in
+    let text = start .args .text .now in
+    let loop = c .before .before .before .before .before .before .before .before .loop in
+    let back = c .before .before .before .before .give-back .ensures in
+    let read = whole text (loop .at) (loop .n) (loop .m) (loop .numbers) (loop .marks) (objectorsIn (loop .objectors))
+    (targetsIn (loop .objectors)) (loop .inv .0) (start .pre .0 .0) (c .before .before .before .before .before .before .before .loop-test .left) in (
+      read .0,
+      read .1,
+      holds-back (read .0) (loop .n) (loop .m) (loop .numbers) (loop .marks) (objectorsIn (loop .objectors))
+          (targetsIn (loop .objectors)) _ _ (read .2) (back .0) (back .1),
+    )
 
 pub read-lines-spec : {M : Type 1} → statement M
 read-lines-spec =
@@ -383,6 +405,7 @@ read-lines-spec =
     add-m
     loop-less-2
     loop-again-2
+    give-back-requires
     same-length-16
     same-length-17
     same-length-18

@@ -1,0 +1,3 @@
+pub mod Views
+pub mod Links
+pub mod Meets

@@ -1,0 +1,3 @@
+pub mod Walks
+pub mod Entered
+pub mod GivenBack

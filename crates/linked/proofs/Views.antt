@@ -121,9 +121,10 @@ pub put-high : (links : List ℕ) (e l : ℕ) → 3072 ≤ e → withLinkBy link
 unfolding withLinkBy
 put-high links e l h = rw (le-ltb e 3072 h) refl
 
-shifted : (k i e : ℕ) {now was put : ℕ} → Stored (k + i) (k + e) now was put → Stored i e now was put
-shifted k i e (inl (p, a)) = inl (omega arith, a)
-shifted k i e (inr (n, b)) = inr ((λ p. n (omega arith)), b)
+-- what a store did, told of the places that words stand for
+of-place : (k i e : ℕ) {now was put : ℕ} → Stored (k + 2 * i) (k + 2 * e) now was put → Stored i e now was put
+of-place k i e (inl (p, a)) = inl (omega arith, a)
+of-place k i e (inr (n, b)) = inr ((λ p. n (omega arith)), b)
 
 -- The store of a link by the objector: no other link, and no chain begins elsewhere.
 module _ (links : List ℕ) (e l : ℕ) (entry : e < 4096) (small : l < 4096) (words : 3072 ≤ length links) where
@@ -162,40 +163,40 @@ module _ (links : List ℕ) (e l : ℕ) (entry : e < 4096) (small : l < 4096) (w
 
   pub link-against : (x : ℕ) → beginAgainst (withLinkBy links e l) x ≡ beginAgainst links x
   unfolding beginAgainst
-  link-against x = link-high-stays (1024 + x) (omega arith)
+  link-against x = link-high-stays (1024 + 2 * x) (omega arith)
 
   pub link-by : (y : ℕ) → beginBy (withLinkBy links e l) y ≡ beginBy links y
   unfolding beginBy
-  link-by y = link-high-stays (2048 + y) (omega arith)
+  link-by y = link-high-stays (1025 + 2 * y) (omega arith)
 
 -- The store of where two chains begin: no other chain's, and no link.
 module _ (links : List ℕ) (y x b : ℕ) (objector : y < 1024) (target : x < 1024) (words : 3072 ≤ length links) where
   pub begins-length : length (withBegins links y x b) ≡ length links
   unfolding withBegins
-  begins-length = high-length (withHigh links (1024 + x) b) (2048 + y) b ∙ high-length links (1024 + x) b
+  begins-length = high-length (withHigh links (1024 + 2 * x) b) (1025 + 2 * y) b ∙ high-length links (1024 + 2 * x) b
 
-  first : (i : ℕ) → Stored i (1024 + x) (high (withHigh links (1024 + x) b) i) (high links i) b
-  first = high-high links (1024 + x) b (omega arith)
+  first : (i : ℕ) → Stored i (1024 + 2 * x) (high (withHigh links (1024 + 2 * x) b) i) (high links i) b
+  first = high-high links (1024 + 2 * x) b (omega arith)
 
-  second : (i : ℕ) → Stored i (2048 + y) (high (withBegins links y x b) i) (high (withHigh links (1024 + x) b) i) b
+  second : (i : ℕ) → Stored i (1025 + 2 * y) (high (withBegins links y x b) i) (high (withHigh links (1024 + 2 * x) b) i) b
   unfolding withBegins
-  second = high-high (withHigh links (1024 + x) b) (2048 + y) b (omega (arith, high-length links (1024 + x) b))
+  second = high-high (withHigh links (1024 + 2 * x) b) (1025 + 2 * y) b (omega (arith, high-length links (1024 + 2 * x) b))
 
   pub begins-against : (u : ℕ) → u < 1024 → Stored u x (beginAgainst (withBegins links y x b) u) (beginAgainst links u) b
   unfolding beginAgainst
   begins-against u h =
-      rw (as-was (1024 + u) (2048 + y) (second (1024 + u)) (λ p. omega arith)) (shifted 1024 u x (first (1024 + u)))
+      rw (as-was (1024 + 2 * u) (1025 + 2 * y) (second (1024 + 2 * u)) (λ p. omega arith)) (of-place 1024 u x (first (1024 + 2 * u)))
 
   pub begins-by : (u : ℕ) → Stored u y (beginBy (withBegins links y x b) u) (beginBy links u) b
   unfolding beginBy
   begins-by u =
-      rw (← (as-was (2048 + u) (1024 + x) (first (2048 + u)) (λ p. omega arith))) (shifted 2048 u y (second (2048 + u)))
+      rw (← (as-was (1025 + 2 * u) (1024 + 2 * x) (first (1025 + 2 * u)) (λ p. omega arith))) (of-place 1025 u y (second (1025 + 2 * u)))
 
   begins-low : (i : ℕ) → low (withBegins links y x b) i ≡ low links i
   unfolding withBegins
   begins-low i =
-      high-low (withHigh links (1024 + x) b) (2048 + y) b (omega (arith, high-length links (1024 + x) b)) i
-      ∙ high-low links (1024 + x) b (omega arith) i
+      high-low (withHigh links (1024 + 2 * x) b) (1025 + 2 * y) b (omega (arith, high-length links (1024 + 2 * x) b)) i
+      ∙ high-low links (1024 + 2 * x) b (omega arith) i
 
   pub begins-link : (e : ℕ) → e < 4096 → linkBy (withBegins links y x b) e ≡ linkBy links e
   begins-link e h = go (decLt e 3072)
@@ -204,5 +205,5 @@ module _ (links : List ℕ) (y x b : ℕ) (objector : y < 1024) (target : x < 10
       go (yes k) = link-low (withBegins links y x b) e k ∙ begins-low e ∙ sym (link-low links e k)
       go (no k) =
           link-high (withBegins links y x b) e (omega arith)
-          ∙ as-was (e - 3072) (2048 + y) (second (e - 3072)) (λ p. omega arith)
-          ∙ as-was (e - 3072) (1024 + x) (first (e - 3072)) (λ p. omega arith) ∙ sym (link-high links e (omega arith))
+          ∙ as-was (e - 3072) (1025 + 2 * y) (second (e - 3072)) (λ p. omega arith)
+          ∙ as-was (e - 3072) (1024 + 2 * x) (first (e - 3072)) (λ p. omega arith) ∙ sym (link-high links e (omega arith))

@@ -31,12 +31,12 @@ high links i = getD links i 0 / 4096
 unfoldable pub linkBy : List ℕ → ℕ → ℕ
 linkBy links e = cond (ltb e 3072) (low links e) (high links (e - 3072))
 
--- where chains begin: the latest objection against x, and by y
+-- where chains begin: the latest objection against x, and by y, in turn behind those high parts
 unfoldable pub beginAgainst : List ℕ → ℕ → ℕ
-beginAgainst links x = high links (1024 + x)
+beginAgainst links x = high links (1024 + 2 * x)
 
 unfoldable pub beginBy : List ℕ → ℕ → ℕ
-beginBy links y = high links (2048 + y)
+beginBy links y = high links (1025 + 2 * y)
 
 -- The stores: an objection and its link in the first room; a part of a word, a link and two beginnings in the second.
 unfoldable pub withPair : List ℕ → (e y x l : ℕ) → List ℕ
@@ -52,7 +52,7 @@ unfoldable pub withLinkBy : List ℕ → (e l : ℕ) → List ℕ
 withLinkBy links e l = cond (ltb e 3072) (withLow links e l) (withHigh links (e - 3072) l)
 
 unfoldable pub withBegins : List ℕ → (y x b : ℕ) → List ℕ
-withBegins links y x b = withHigh (withHigh links (1024 + x) b) (2048 + y) b
+withBegins links y x b = withHigh (withHigh links (1024 + 2 * x) b) (1025 + 2 * y) b
 
 -- l tells the latest of the entries before e that has the place v
 pub record Latest (places : List ℕ) (e v l : ℕ) : Type 0 where

@@ -53,7 +53,7 @@ pub fn begin_against(links: &[u32], x: usize) -> usize
     requires { ⌜ (x < 1024) × (3072 ≤ length (now links)) ⌝ }
     ensures { λ r. ⌜ r ≡ beginAgainst (now (links .entry)) x ⌝ }
 {
-    high_in(links[1024 + x])
+    high_in(links[1024 + 2 * x])
 }
 
 // The latest entry by an objector, counted from 1, or 0.
@@ -61,7 +61,7 @@ pub fn begin_by(links: &[u32], y: usize) -> usize
     requires { ⌜ (y < 1024) × (3072 ≤ length (now links)) ⌝ }
     ensures { λ r. ⌜ r ≡ beginBy (now (links .entry)) y ⌝ }
 {
-    high_in(links[2048 + y])
+    high_in(links[1025 + 2 * y])
 }
 
 // Puts an entry: its objector, its target and its link among those against the target.
@@ -106,6 +106,6 @@ pub fn put_begins(links: &mut [u32], y: usize, x: usize, b: usize)
     requires { ⌜ (y < 1024) × (x < 1024) × (b ≤ 4096) × (3072 ≤ length (now links)) ⌝ }
     ensures { λ _. ⌜ now (links .exit) ≡ withBegins (now (links .entry)) y x b ⌝ }
 {
-    put_high(links, 1024 + x, b);
-    put_high(links, 2048 + y, b);
+    put_high(links, 1024 + 2 * x, b);
+    put_high(links, 1025 + 2 * y, b);
 }

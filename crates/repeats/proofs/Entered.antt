@@ -2,7 +2,7 @@
 use mathlib.Core.List.{List}
 use mathlib.Core.Logic.{⊎-elim}
 use mathlib.Core.Path.{_≡_, sym, ap, _∙_}
-use Prim.Native.Nat.{ℕ, _+_, _≤_, _<_}
+use Prim.Native.Nat.{ℕ, _+_, _*_, _≤_, _<_}
 use native.Mathlib.Decide.{ℕ-discrete}
 use native.Mathlib.Omega.{arith}
 use lib.ListN.{length, getD, set, replicate, length-replicate}
@@ -39,7 +39,7 @@ unfolding beginAgainst beginBy high
 chains-zeros n few =
     chains-none n (replicate {A = ℕ} 4096 0) (replicate {A = ℕ} 3072 0) few (omega (arith, length-replicate {A = ℕ} 4096 0))
     (omega (arith, length-replicate {A = ℕ} 3072 0))
-    (λ v h. (omega (arith, all-zero 3072 (1024 + v)), omega (arith, all-zero 3072 (2048 + v))))
+    (λ v h. (omega (arith, all-zero 3072 (1024 + 2 * v)), omega (arith, all-zero 3072 (1025 + 2 * v))))
 
 module _ (n m : ℕ) (pairs links : List ℕ) (chains : Chains n m pairs links) (left : m < 4096) (y x : ℕ) (objector : y < n) (target : x < n)
     (new : (e : ℕ) → e < m → ¬ Same (objectorsIn pairs) (targetsIn pairs) y x e) where
@@ -64,14 +64,11 @@ module _ (n m : ℕ) (pairs links : List ℕ) (chains : Chains n m pairs links) 
   low-x : x < 1024
   low-x = omega (arith, chains .few)
 
-  pub earlier-against : beginAgainst links x < 4096
-  earlier-against = omega (arith, chains .against .begins x target .earlier)
-
-  pub earlier-by : beginBy links y < 4096
-  earlier-by = omega (arith, chains .by .begins y objector .earlier)
+  pub earlier : (beginAgainst links x < 4096) × (beginBy links y < 4096)
+  earlier = (omega (arith, chains .against .begins x target .earlier), omega (arith, chains .by .begins y objector .earlier))
 
   words : 3072 ≤ length linked
-  words = omega (arith, chains .links-room, link-length links m (beginBy links y) left earlier-by (chains .links-room))
+  words = omega (arith, chains .links-room, link-length links m (beginBy links y) left (earlier .1) (chains .links-room))
 
   pub objectors-more : objectorsIn pairs′ ≡ objectors
   objectors-more = pair-objectors pairs m y x (beginAgainst links x) low-y low-x
@@ -87,12 +84,12 @@ module _ (n m : ℕ) (pairs links : List ℕ) (chains : Chains n m pairs links) 
     where
       begun : (u : ℕ) → u < n → Stored u y (beginBy links′ u) (beginBy links u) (m + 1)
       begun u h =
-          rw (← (link-by links m (beginBy links y) left earlier-by (chains .links-room) u)) (begins-by linked y x (m + 1) low-y low-x words u)
+          rw (← (link-by links m (beginBy links y) left (earlier .1) (chains .links-room) u)) (begins-by linked y x (m + 1) low-y low-x words u)
 
       put : (e : ℕ) → e < m + 1 → Stored e m (linkBy links′ e) (linkBy links e) (beginBy links y)
       put e h =
           rw (begins-link linked y x (m + 1) low-y low-x words e (omega arith))
-          (link-link links m (beginBy links y) left earlier-by (chains .links-room) e (omega arith))
+          (link-link links m (beginBy links y) left (earlier .1) (chains .links-room) e (omega arith))
 
   chained-against : Linked targets n (m + 1) (beginAgainst links′) (linkAgainst pairs′)
   chained-against =
@@ -101,7 +98,7 @@ module _ (n m : ℕ) (pairs links : List ℕ) (chains : Chains n m pairs links) 
     where
       begun : (u : ℕ) → u < n → Stored u x (beginAgainst links′ u) (beginAgainst links u) (m + 1)
       begun u h =
-          rw (← (link-against links m (beginBy links y) left earlier-by (chains .links-room) u))
+          rw (← (link-against links m (beginBy links y) left (earlier .1) (chains .links-room) u))
           (begins-against linked y x (m + 1) low-y low-x words u (omega (arith, chains .few)))
 
       put : (e : ℕ) → e < m + 1 → Stored e m (linkAgainst pairs′ e) (linkAgainst pairs e) (beginAgainst links x)
@@ -116,21 +113,21 @@ module _ (n m : ℕ) (pairs links : List ℕ) (chains : Chains n m pairs links) 
       was-against : (j : ℕ) → (j ≡ m → ⊥) → getD targets j 0 ≡ getD (targetsIn pairs) j 0
       was-against j = getD-set-other (targetsIn pairs) m j x 0
 
-      earlier : i ≡ m → ⊥
-      earlier z = omega arith
+      before : i ≡ m → ⊥
+      before z = omega arith
 
       go : Dec (e ≡ m) → ⊥
       go (yes z) =
           new i (omega arith) (
-            sym (was-by i earlier) ∙ p ∙ ap (λ j. getD objectors j 0) z
+            sym (was-by i before) ∙ p ∙ ap (λ j. getD objectors j 0) z
                 ∙ getD-set-same (objectorsIn pairs) m y 0 (omega (arith, objectors-length pairs, chains .pairs-room)),
-            sym (was-against i earlier) ∙ q ∙ ap (λ j. getD targets j 0) z
+            sym (was-against i before) ∙ q ∙ ap (λ j. getD targets j 0) z
                 ∙ getD-set-same (targetsIn pairs) m x 0 (omega (arith, targets-length pairs, chains .pairs-room)),
           )
       go (no z) =
           chains .once i e h (omega arith) (
-            sym (was-by i earlier) ∙ p ∙ was-by e z,
-            sym (was-against i earlier) ∙ q ∙ was-against e z,
+            sym (was-by i before) ∙ p ∙ was-by e z,
+            sym (was-against i before) ∙ q ∙ was-against e z,
           )
 
   pub chains-more : Chains n (m + 1) pairs′ links′

@@ -70,9 +70,9 @@ pub fn enter(pairs: &mut [u32], links: &mut [u32], n: usize, m: usize, y: usize,
 {
     let against = begin_against(links, x);
     let by = begin_by(links, y);
-    linked::put_pair(pairs, m, y, x, against);
     linked::put_link_by(links, m, by);
     linked::put_begins(links, y, x, m + 1);
+    linked::put_pair(pairs, m, y, x, against);
 }
 
 // Gives the lists of the first m objectors and targets back, each in a room of its own.

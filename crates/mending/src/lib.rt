@@ -242,7 +242,8 @@ fn pass_objection(
     }
 }
 
-// Settles the objections of a text whose statements are settled, and answers how many are kept.
+// Settles the objections of a text whose statements are settled, and answers how many are kept. Meanwhile the rooms for objectors and
+// targets hold those kept linked; at the end they hold the two lists.
 fn settle_objections(
     text: &[u8],
     numbers: &[u32],

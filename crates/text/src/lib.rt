@@ -127,7 +127,8 @@ fn take_objection(
     Taken::Kept
 }
 
-// Reads a text that is short enough and ended, line by line, and keeps an index of the numbers.
+// Reads a text that is short enough and ended, line by line, and keeps an index of the numbers. Meanwhile the rooms for objectors and
+// targets hold the objections linked; at the end they hold the two lists.
 fn read_lines(
     text: &[u8],
     numbers: &mut [u32],

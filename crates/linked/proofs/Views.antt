@@ -32,10 +32,6 @@ target-at pairs e = List·getD-map (λ w. w / 1024 % 1024) pairs e 0
 abbrev pub Stored : (i e : ℕ) (now was put : ℕ) → Type 0
 Stored i e now was put = ((i ≡ e) × (now ≡ put)) ⊎ ((i ≡ e → ⊥) × (now ≡ was))
 
-as-put : (i e : ℕ) {now was put : ℕ} → Stored i e now was put → i ≡ e → now ≡ put
-as-put i e (inl (p, a)) q = a
-as-put i e (inr (n, b)) q = absurd (n q)
-
 as-was : (i e : ℕ) {now was put : ℕ} → Stored i e now was put → (i ≡ e → ⊥) → now ≡ was
 as-was i e (inl (p, a)) n = absurd (n p)
 as-was i e (inr (q, b)) n = b
@@ -182,9 +178,9 @@ module _ (links : List ℕ) (y x b : ℕ) (objector : y < 1024) (target : x < 10
   unfolding withBegins
   second = high-high (withHigh links (1024 + 2 * x) b) (1025 + 2 * y) b (omega (arith, high-length links (1024 + 2 * x) b))
 
-  pub begins-against : (u : ℕ) → u < 1024 → Stored u x (beginAgainst (withBegins links y x b) u) (beginAgainst links u) b
+  pub begins-against : (u : ℕ) → Stored u x (beginAgainst (withBegins links y x b) u) (beginAgainst links u) b
   unfolding beginAgainst
-  begins-against u h =
+  begins-against u =
       rw (as-was (1024 + 2 * u) (1025 + 2 * y) (second (1024 + 2 * u)) (λ p. omega arith)) (of-place 1024 u x (first (1024 + 2 * u)))
 
   pub begins-by : (u : ℕ) → Stored u y (beginBy (withBegins links y x b) u) (beginBy links u) b

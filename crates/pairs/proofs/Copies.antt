@@ -5,11 +5,11 @@ use Prim.Native.Nat.{ℕ, _≤_, _<_}
 use native.Mathlib.Omega.{arith}
 use lib.ListN.{length, getD}
 use Rattle.game.specs.Find.{Found}
-use Rattle.repeats.proofs.GivenBack.{Begins}
+use Rattle.repeats.proofs.GivenBack.{Copied}
 use Rattle.pairs.specs.Refuses.{Same, Repeat}
 
-module _ (objectors targets by against : List ℕ) (k y x : ℕ) (h : k < length objectors) (copied-by : Begins by objectors k)
-    (copied-against : Begins against targets k) (p : y ≡ getD objectors k 0) (q : x ≡ getD targets k 0) (r : ℕ)
+module _ (objectors targets by against : List ℕ) (k y x : ℕ) (h : k < length objectors) (copied-by : Copied by objectors k)
+    (copied-against : Copied against targets k) (p : y ≡ getD objectors k 0) (q : x ≡ getD targets k 0) (r : ℕ)
     (found : Found (Same by against y x) k r) where
   pub is-repeat : r < k → Repeat objectors targets k
   is-repeat l = (h, (r, l, (sym (copied-by r l) ∙ found .2 l .0 ∙ p, sym (copied-against r l) ∙ found .2 l .1 ∙ q)))

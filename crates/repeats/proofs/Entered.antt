@@ -18,7 +18,7 @@ pub none-more : (links : List ℕ) (v : ℕ) → v < 1024 → 3072 ≤ length li
     → ((u : ℕ) → u < v → (beginAgainst links u ≡ 0) × (beginBy links u ≡ 0)) → (u : ℕ) → u < v + 1
     → (beginAgainst (withBegins links v v 0) u ≡ 0) × (beginBy (withBegins links v v 0) u ≡ 0)
 none-more links v low words none u h = (
-  ⊎-elim (λ w. w .1) (λ w. w .1 ∙ none u (omega (arith, w .0)) .0) (begins-against links v v 0 low low words u (omega arith)),
+  ⊎-elim (λ w. w .1) (λ w. w .1 ∙ none u (omega (arith, w .0)) .0) (begins-against links v v 0 low low words u),
   ⊎-elim (λ w. w .1) (λ w. w .1 ∙ none u (omega (arith, w .0)) .1) (begins-by links v v 0 low low words u),
 )
 
@@ -99,7 +99,7 @@ module _ (n m : ℕ) (pairs links : List ℕ) (chains : Chains n m pairs links) 
       begun : (u : ℕ) → u < n → Stored u x (beginAgainst links′ u) (beginAgainst links u) (m + 1)
       begun u h =
           rw (← (link-against links m (beginBy links y) left (earlier .1) (chains .links-room) u))
-          (begins-against linked y x (m + 1) low-y low-x words u (omega (arith, chains .few)))
+          (begins-against linked y x (m + 1) low-y low-x words u)
 
       put : (e : ℕ) → e < m + 1 → Stored e m (linkAgainst pairs′ e) (linkAgainst pairs e) (beginAgainst links x)
       put e h = pair-link pairs m y x (beginAgainst links x) low-y low-x (omega (arith, chains .pairs-room)) e

@@ -7,7 +7,7 @@ use Rattle.game.proofs.Find.{further, found-none, found-here}
 use Rattle.linked.specs.Linked.{objectorsIn, targetsIn}
 use Rattle.linked.proofs.Views.{objectors-length, targets-length}
 use Rattle.repeats.specs.Chains.{Chains}
-use Rattle.repeats.proofs.GivenBack.{Begins, begins-more}
+use Rattle.repeats.proofs.GivenBack.{Copied, copied-more}
 use Rattle.pairs.specs.Refuses.{Repeat}
 use Rattle.pairs.proofs.Copies.{is-repeat, no-repeat}
 use borrow.Author.Needs.{needs}
@@ -17,7 +17,7 @@ use Rattle.pairs.proofs.first_repeat.Tie as tie
 abbrev Inv-loop : tie.InvT-loop
 Inv-loop marks objectors targets copies₀ links₀ n k₀ copies links k =
     (k ≤ length objectors) × (length copies ≡ length copies₀) × (length links ≡ length links₀)
-    × Chains (length marks) k copies links × Begins (objectorsIn copies) objectors k × Begins (targetsIn copies) targets k
+    × Chains (length marks) k copies links × Copied (objectorsIn copies) objectors k × Copied (targetsIn copies) targets k
     × ((j : ℕ) → j < k → ¬ Repeat objectors targets j)
 
 abbrev μ-loop : tie.MeasureT-loop
@@ -110,9 +110,9 @@ loop-again c =
       enter .kept .0 ∙ loop .inv .1,
       enter .kept .1 .0 ∙ loop .inv .2,
       enter .ensures .0,
-      rw (enter .ensures .1) (begins-more (objectorsIn (loop .copies)) (args .objectors .now) (loop .k) _
+      rw (enter .ensures .1) (copied-more (objectorsIn (loop .copies)) (args .objectors .now) (loop .k) _
           (omega (arith, room, objectors-length (loop .copies))) (loop .inv .4) y),
-      rw (enter .ensures .2) (begins-more (targetsIn (loop .copies)) (args .targets .now) (loop .k) _
+      rw (enter .ensures .2) (copied-more (targetsIn (loop .copies)) (args .targets .now) (loop .k) _
           (omega (arith, room, targets-length (loop .copies))) (loop .inv .5) x),
       further _ _ (loop .inv .6) (no-repeat (args .objectors .now) (args .targets .now) (objectorsIn (loop .copies)) (targetsIn (loop .copies)) (loop .k) _ _ taken
           (loop .inv .4) (loop .inv .5) y x _ (c .before .before .before .before .before .before .before .before .pair-at .ensures) (c .before .before .before .before .before .before .before .if1 .left)),

@@ -6,15 +6,15 @@ use lib.ListN.{length, getD, length-set}
 use lib.Seq.{getD-set-other}
 use Rattle.linked.specs.Linked.{objectorsIn, targetsIn}
 use Rattle.linked.proofs.Views.{objector-at, target-at, objectors-length, targets-length}
-use Rattle.repeats.proofs.GivenBack.{Begins, begins-more, given-back}
+use Rattle.repeats.proofs.GivenBack.{Copied, copied-more, given-back}
 use borrow.Author.Needs.{needs}
 use Rattle.repeats.proofs.give_back.Statement.{statement}
 use Rattle.repeats.proofs.give_back.Tie as tie
 
 abbrev Inv-loop : tie.InvT-loop
 Inv-loop pairs₀ links₀ m e₀ pairs links e =
-    (e ≤ m) × (length pairs ≡ length pairs₀) × (length links ≡ length links₀) × Begins pairs (objectorsIn pairs₀) e
-    × Begins links (targetsIn pairs₀) e × ((i : ℕ) → e ≤ i → getD pairs i 0 ≡ getD pairs₀ i 0)
+    (e ≤ m) × (length pairs ≡ length pairs₀) × (length links ≡ length links₀) × Copied pairs (objectorsIn pairs₀) e
+    × Copied links (targetsIn pairs₀) e × ((i : ℕ) → e ≤ i → getD pairs i 0 ≡ getD pairs₀ i 0)
 
 abbrev μ-loop : tie.MeasureT-loop
 μ-loop pairs₀ links₀ m e₀ pairs links e = m - e
@@ -55,8 +55,8 @@ loop-again c =
       search needs,
       simp length-set (loop .inv .1),
       simp length-set (loop .inv .2),
-      begins-more (loop .pairs) (objectorsIn pairs) (loop .e) _ (slice-write-pairs c) (loop .inv .3) (ap (λ w. w % 1024) word ∙ sym (objector-at pairs (loop .e))),
-      begins-more (loop .links) (targetsIn pairs) (loop .e) _ (slice-write-links c) (loop .inv .4) (ap (λ w. w / 1024 % 1024) word ∙ sym (target-at pairs (loop .e))),
+      copied-more (loop .pairs) (objectorsIn pairs) (loop .e) _ (slice-write-pairs c) (loop .inv .3) (ap (λ w. w % 1024) word ∙ sym (objector-at pairs (loop .e))),
+      copied-more (loop .links) (targetsIn pairs) (loop .e) _ (slice-write-links c) (loop .inv .4) (ap (λ w. w / 1024 % 1024) word ∙ sym (target-at pairs (loop .e))),
       λ i h. getD-set-other (loop .pairs) (loop .e) i _ 0 (λ p. omega arith) ∙ loop .inv .5 i (omega arith),
     )
 

@@ -25,12 +25,12 @@ to = $(DESTDIR)$(PREFIX)
 installed = include/batqemulo.h lib/libbatqemulo.a lib/pkgconfig/batqemulo.pc $(programs:%=bin/batqemulo-%) \
     $(programs:%=share/man/man1/batqemulo-%.1) share/man/man3/batqemulo.3 $(calls:%=share/man/man3/%.3)
 
-all: $(library) $(programs:%=target/bin/%)
+all: $(library) $(programs:%=target/bin/program_%)
 
 $(library): $(crates)
 	rt staticlib batqemulo
 
-$(programs:%=target/bin/%): target/bin/%: $(crates)
+$(programs:%=target/bin/program_%): target/bin/%: $(crates)
 	rt check $*
 
 check:
@@ -45,7 +45,7 @@ install: all
 	$(INSTALL) -m 644 $(library) "$(to)/lib/libbatqemulo.a"
 	sed -e 's|@PREFIX@|$(PREFIX)|' -e 's|@VERSION@|$(VERSION)|' batqemulo.pc.in >target/batqemulo.pc
 	$(INSTALL) -m 644 target/batqemulo.pc "$(to)/lib/pkgconfig/batqemulo.pc"
-	for name in $(programs); do $(INSTALL) -m 755 target/bin/$$name "$(to)/bin/batqemulo-$$name" || exit; done
+	for name in $(programs); do $(INSTALL) -m 755 target/bin/program_$$name "$(to)/bin/batqemulo-$$name" || exit; done
 	for page in $(programs:%=batqemulo-%.1); do $(INSTALL) -m 644 docs/$$page "$(to)/share/man/man1/$$page" || exit; done
 	$(INSTALL) -m 644 docs/batqemulo.3 "$(to)/share/man/man3/batqemulo.3"
 	echo '.so man3/batqemulo.3' >target/call.3

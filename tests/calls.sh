@@ -36,7 +36,7 @@ said_by() {
     awk -v name="$1" '
         $1 == "pub" && $2 == name && $3 == ":" { inside = 1 }
         inside && $1 == name { exit }
-        inside { printf "%s ", $0 }' crates/*/proofs/Unique.antt
+        inside { printf "%s ", $0 }' crates/promises/proofs/Unique*.antt
 }
 
 # has_theorem CALL PROMISE: a theorem of that name has the promise twice before its conclusion
@@ -55,7 +55,11 @@ names_said() {
         grep -x '[A-Za-z][A-Za-z0-9_′-]*[A-Za-z0-9_′]' | sort -u
 }
 
-name_there() { grep -rqw -- "$1" crates include tests docs/ASSUMPTIONS.md --include='*.antt' --include='*.rt' --include='*.edit' --include='*.h' --include='*.sh' || edit_there "$1"; }
+# name_there NAME: in a source or a test, or an edit
+name_there() {
+    grep -rqw --include='*.antt' --include='*.rt' --include='*.edit' --include='*.h' --include='*.sh' --include=ASSUMPTIONS.md \
+        -- "$1" crates include tests docs/ASSUMPTIONS.md || edit_there "$1"
+}
 
 edit_there() { compgen -G "crates/*/must-fail/$1.edit" >/dev/null; }
 

@@ -150,7 +150,7 @@ mended_twice() {
 
 # then_listed FILE: what was mended is a register
 then_listed() {
-    ask <"$1" | "${start_list[@]}" target/bin/list | head -n 1 | grep -q '^REGISTER'
+    ask <"$1" | "${start_list[@]}" target/bin/program_list | head -n 1 | grep -q '^REGISTER'
 }
 
 as_in_the_tutorial() {

@@ -13,7 +13,7 @@ mkdir -p "$work"
 
 # started COMMAND..: the command, with the program and its words for its last ones
 started() {
-    "$@" "${start_list[@]}" "target/bin/$tried" "${words[@]}"
+    "$@" "${start_list[@]}" "target/bin/program_$tried" "${words[@]}"
 }
 
 # ask: the program, stopped if it does not end by itself
@@ -245,7 +245,7 @@ without_environment() {
 # traced: the program's system calls go to the file trace
 traced() {
     if [ ${#emulator[@]} -gt 0 ]; then
-        "${emulator[@]}" -strace "${loader[@]}" "target/bin/$tried" "${words[@]}" 2>"$work/trace"
+        "${emulator[@]}" -strace "${loader[@]}" "target/bin/program_$tried" "${words[@]}" 2>"$work/trace"
     else
         started strace -o "$work/trace"
     fi

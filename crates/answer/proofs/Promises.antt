@@ -1,11 +1,11 @@
 -- A promise leaves one answer and one content of the rooms, and gives each refusal exactly when it is due.
 use mathlib.Core.Logic.{inl, inr, _↔_}
-use mathlib.Core.Path.{_≡_, refl, sym, _∙_, ap, subst}
+use mathlib.Core.Path.{ap, sym, subst, refl, _≡_, _∙_}
 use Prim.Native.Nat.{ℕ, _≤_, _<_}
 use native.Mathlib.Omega.{arith}
-use Rattle.refusal.specs.Numbers.{numberOf}
-use Rattle.refusal.specs.declared.Refusal.{Refusal}
-use Rattle.refusal.specs.declared.Refusal.the-variants.{Room, Asked, Turns}
+use Rattle.answer.specs.Refusals.{refusalNumber}
+use Rattle.answer.specs.declared.Refusal.{Refusal}
+use Rattle.answer.specs.declared.Refusal.the-variants.{Asked, Turns, Room}
 use Rattle.answer.specs.Answer.{Promised, Short, Asks}
 use Rattle.answer.specs.declared.Answer.{Answer}
 use Rattle.answer.specs.declared.Answer.the-variants.{Refused, Given}
@@ -36,8 +36,8 @@ module _ {Rooms : Type 0} (refuses : Refusal → Type 0) (gives : ℕ → Rooms 
       due (Given n) p q = absurd (apart r n after q p)
 
 -- refusals of different numbers are different
-pub number-clash : (r r′ : Refusal) → (numberOf r ≡ numberOf r′ → ⊥) → r ≡ r′ → ⊥
-number-clash r r′ n e = n (ap numberOf e)
+pub number-clash : (r r′ : Refusal) → (refusalNumber r ≡ refusalNumber r′ → ⊥) → r ≡ r′ → ⊥
+number-clash r r′ n e = n (ap refusalNumber e)
 
 -- 14, 15 and 10 are given exactly when something holds
 pub record Exactly (asked turns room : Type 0) (a : Answer) : Type 0 where

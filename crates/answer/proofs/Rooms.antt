@@ -1,11 +1,11 @@
 -- Rooms that begin with an answer: one entry more, and that there is only one such room.
-use mathlib.Core.List.{List, _++_}
-use mathlib.Core.Path.{_≡_, refl, sym, _∙_, ap}
+use mathlib.Core.List.{List, _++_, append-nil}
+use mathlib.Core.Path.{refl, sym, ap, _≡_, _∙_}
 use Prim.Native.Nat.{ℕ, _+_, _<_}
 use native.Mathlib.Decide.{ℕ-discrete, decLt}
 use native.Mathlib.Omega.{arith}
-use lib.ListN.{length, getD, set, drop, length-set}
-use lib.Seq.{getD-set-same, getD-set-other, ext-getD}
+use lib.ListN.{length, set, length-set, getD, drop}
+use lib.Seq.{getD-set-other, getD-set-same, ext-getD, drop-length}
 use Rattle.answer.specs.Answer.{Begins, Written}
 
 module _ (entry : ℕ → ℕ → Type 0) (room : List ℕ) where
@@ -41,3 +41,8 @@ pub written-unique : (l l′ room : List ℕ) (n n′ : ℕ) (after after′ : L
     → Written l′ room n′ after′ → (n ≡ n′) × (after ≡ after′)
 written-unique l l′ room n n′ after after′ q (c, h, e) (c′, h′, e′) =
     (c ∙ ap length q ∙ sym c′, e ∙ ap (λ k. k ++ drop (length k) room) q ∙ sym e′)
+
+-- a list as long as the room fills it
+pub whole-room : (l room : List ℕ) → length l ≡ length room → l ++ drop (length l) room ≡ l
+whole-room l room e =
+    ap (λ (k : ℕ). l ++ drop k room) e ∙ ap (λ (r : List ℕ). l ++ r) (drop-length room) ∙ append-nil l

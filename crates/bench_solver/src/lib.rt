@@ -1,9 +1,9 @@
 // Parts of the product by themselves, for the benchmark alone and no part of it: the solver behind the cheap checks, without the
 // search for repeats; and the checks with that search, without the solver.
-use pairs::Checked;
+use lists_check::Checked;
 ghost use mathlib.Core.Path.{_≡_};
-ghost use Rattle.label.specs.Labelled.{Solved};
-ghost use Rattle.pairs.specs.Refuses.{Lists};
+ghost use Rattle.label_solve.specs.Labelled.{Solved};
+ghost use Rattle.lists.specs.Refuses.{Lists};
 
 // Labels and lengths. Answers 1 where it solved and 0 where it did not.
 #[no_mangle]
@@ -26,10 +26,10 @@ pub extern "C" fn bench_solver_label(
     if objectors.len() > 4096 {
         return 0;
     }
-    if pairs::bad_mark(marks) < marks.len() {
+    if lists_check::bad_mark(marks) < marks.len() {
         return 0;
     }
-    if pairs::bad_place(marks, objectors, targets) < objectors.len() {
+    if lists_check::bad_place(marks, objectors, targets) < objectors.len() {
         return 0;
     }
     if labels.len() < marks.len() {
@@ -38,7 +38,7 @@ pub extern "C" fn bench_solver_label(
     if lengths.len() < marks.len() {
         return 0;
     }
-    label::solve(marks, objectors, targets, labels, lengths);
+    label_solve::solve(marks, objectors, targets, labels, lengths);
     1
 }
 
@@ -47,7 +47,7 @@ pub extern "C" fn bench_solver_label(
 pub extern "C" fn bench_solver_check(marks: &[u8], objectors: &[u32], targets: &[u32]) -> u32
     ensures { λ r. ⌜ (r ≡ 1 → Lists (now (marks .entry)) (now (objectors .entry)) (now (targets .entry))) ⌝ }
 {
-    if let Checked::Refused(_) = pairs::check(marks, objectors, targets) {
+    if let Checked::Refused(_) = lists_check::check(marks, objectors, targets) {
         return 0;
     }
     1

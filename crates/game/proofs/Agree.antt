@@ -1,17 +1,18 @@
 -- What agrees everywhere with its own objectors is the meaning, and the meaning so agrees.
 use mathlib.Core.Bool.{not}
-use mathlib.Core.Logic.{_⊎_, inl, inr, _↔_}
-use mathlib.Core.Path.{_≡_, refl, subst, sym, ap, _∙_}
+use mathlib.Core.Logic.{inl, inr, _⊎_, _↔_}
+use mathlib.Core.Path.{subst, sym, refl, ap, _≡_, _∙_}
 use Prim.Native.Nat.{ℕ, zero, suc, _≤_, _-_}
 use native.Mathlib.Omega.{arith, not-le}
 use lib.Dec.{T}
 use Rattle.game.specs.Book.{Book, Listed, Objects, Unread}
-use Rattle.game.specs.Label.{Verdict, is-open, stands, falls, Means}
+use Rattle.game.specs.Label.{Verdict, falls, stands, is-open, Means}
 use Rattle.game.specs.Rules.{fallsWithin}
-use Rattle.game.specs.Agree.{Fits, Agrees}
-use Rattle.game.proofs.Search.{decide, clash}
-use Rattle.game.proofs.Rules.{FallsWithin, StandsWithin, unanswered, falls-zero, falls-by, falls-at, stands-by, stands-at, stands-zero-by, stands-zero-at, stands-read, falls-mono, stands-mono, exclusive}
-use Rattle.game.proofs.Verdict.{Ruled, ruled-means, means-ruled, verdict, verdict-means, length-bound}
+use Rattle.game.specs.Agree.{Agrees, Fits}
+use Rattle.game.proofs.Search.{clash, decide}
+use Rattle.game.proofs.Rules.{FallsWithin, falls-by, StandsWithin, stands-mono, stands-zero-by, stands-by, falls-mono}
+use Rattle.game.proofs.Rules.{falls-zero, falls-at, exclusive, stands-read, stands-zero-at, stands-at, unanswered}
+use Rattle.game.proofs.Verdict.{Ruled, length-bound, ruled-means, means-ruled, verdict, verdict-means}
 
 module _ (B : Book) (v : ℕ → Verdict) where
   -- From agreement to the meaning.

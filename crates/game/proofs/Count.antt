@@ -1,7 +1,7 @@
 -- How many places below n pass a test: the pigeonhole of the bound on lengths.
-use mathlib.Core.Bool.{Bool, true, false, not, cond}
-use mathlib.Core.Logic.{_⊎_, inl, inr}
-use mathlib.Core.Path.{_≡_, subst}
+use mathlib.Core.Bool.{Bool, cond, true, false, not}
+use mathlib.Core.Logic.{inl, inr, _⊎_}
+use mathlib.Core.Path.{subst, _≡_}
 use Prim.Native.Nat.{ℕ, zero, suc, _≤_, _<_}
 use native.Mathlib.Nat.{not-suc-le-zero}
 use native.Mathlib.Omega.{arith}

@@ -1,13 +1,13 @@
 -- Laws of questions and searches: what was answered; a search goes on by one, ends here or ends with none; and the first of what
 -- can be decided is one.
-use mathlib.Core.Bool.{Bool, true, false, not}
-use mathlib.Core.Logic.{_⊎_, inl, inr}
+use mathlib.Core.Bool.{Bool, not, true, false}
+use mathlib.Core.Logic.{inr, inl, _⊎_}
 use mathlib.Core.Path.{_≡_}
 use Prim.Native.Nat.{ℕ, zero, suc, _+_, _≤_, _<_}
 use native.Mathlib.Nat.{not-suc-le-zero}
 use native.Mathlib.Decide.{ℕ-discrete, decLt}
 use native.Mathlib.Omega.{arith}
-use Rattle.game.specs.Find.{Decides, First, Found}
+use Rattle.game.specs.Find.{Decides, Found, First}
 
 -- what a question was answered, where the answer was tried by its contrary
 pub denied : {P : Type 0} (b : Bool) → not b ≡ true → Decides P b → ¬ P

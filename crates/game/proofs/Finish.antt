@@ -1,19 +1,21 @@
 -- What a book says of its finishes: demand 3. And that a finish is wide enough, and no wider: it is the book with any
 -- number of new statements and any set of objections against unread or new ones, all marked read.
-use mathlib.Core.Bool.{Bool, false, not, _&&_, _||_}
-use mathlib.Core.Logic.{_⊎_, inl, inr, _↔_}
-use mathlib.Core.Path.{_≡_, subst, sym}
+use mathlib.Core.Bool.{Bool, not, false, _&&_, _||_}
+use mathlib.Core.Logic.{inl, inr, _⊎_, _↔_}
+use mathlib.Core.Path.{sym, subst, _≡_}
 use Prim.Native.Nat.{ℕ, zero, suc, _+_, _-_, _≤_, _<_}
 use native.Mathlib.Decide.{decLe}
 use native.Mathlib.Omega.{arith}
-use lib.Dec.{T, eqb, ltb, eqb→eq, eqb-refl, ltb→lt, lt→ltb}
+use lib.Dec.{T, ltb, lt→ltb, ltb→lt, eqb, eqb-refl, eqb→eq}
 use Rattle.game.specs.Book.{Book, Listed, Objects, Read, Unread}
-use Rattle.game.specs.Label.{Falls, Stands, falls, stands, Means}
-use Rattle.game.specs.Finish.{Finish, Allowed, between, finished}
-use Rattle.game.proofs.Search.{clash, as-false, decide, refute, both, same-test, and-of, and-left, and-right, or-left, or-right, or-cases}
-use Rattle.game.proofs.Rules.{FallsWithin, StandsWithin, falls-zero, falls-by, falls-at, stands-by, stands-at, stands-zero-by, stands-zero-at, stands-read, exclusive}
+use Rattle.game.specs.Label.{Means, falls, stands, Falls, Stands}
+use Rattle.game.specs.Finish.{between, Allowed, Finish, finished}
+use Rattle.game.proofs.Search.{and-of, both, or-left, or-cases, clash, decide, as-false, same-test, and-left, or-right}
+use Rattle.game.proofs.Search.{and-right, refute}
+use Rattle.game.proofs.Rules.{FallsWithin, falls-zero, falls-at, falls-by, StandsWithin, stands-zero-by, stands-read}
+use Rattle.game.proofs.Rules.{stands-zero-at, stands-by, stands-at, exclusive}
 use Rattle.game.proofs.Game.{falls-game, stands-game}
-use Rattle.game.proofs.Verdict.{means-ruled, falls-within, stands-within}
+use Rattle.game.proofs.Verdict.{falls-within, means-ruled, stands-within}
 use Rattle.game.proofs.Transfer.{Same}
 
 module _ (B : Book) where

@@ -1,17 +1,19 @@
 -- The rules say what the game means, for each speaker and each number of turns: `falls-game` and `stands-game`. And a
 -- forced win is about something: `played-out`.
 use mathlib.Core.Bool.{not}
-use mathlib.Core.Logic.{_⊎_, inl, inr, _↔_}
-use Prim.Native.Nat.{ℕ, zero, suc, _≤_, _<_, _+_}
+use mathlib.Core.Logic.{inl, inr, _⊎_, _↔_}
+use Prim.Native.Nat.{ℕ, suc, zero, _≤_, _<_, _+_}
 use native.Mathlib.Nat.{not-suc-le-zero, zero-add, suc-add}
 use native.Mathlib.Decide.{decLe}
 use native.Mathlib.Omega.{arith}
 use lib.Dec.{T}
-use Rattle.game.specs.Book.{Book, Objects, Objected, Read}
-use Rattle.game.specs.Game.{Turn, mine, theirs, Choice, Reach, start, kept, named, CanEnd, Won, Forces, FirstWins, SecondWins}
+use Rattle.game.specs.Book.{Book, Objected, Objects, Read}
+use Rattle.game.specs.Game.{Turn, Reach, theirs, mine, start, kept, named, Forces, Won, CanEnd, Choice, FirstWins}
+use Rattle.game.specs.Game.{SecondWins}
 use Rattle.game.specs.Rules.{fallsWithin}
-use Rattle.game.proofs.Search.{decide, clash, refute}
-use Rattle.game.proofs.Rules.{FallsWithin, StandsWithin, objected?, falls-zero, falls-by, falls-at, stands-by, stands-at, stands-zero-by, stands-zero-at, stands-read, falls-mono}
+use Rattle.game.proofs.Search.{refute, clash, decide}
+use Rattle.game.proofs.Rules.{objected?, FallsWithin, falls-by, StandsWithin, stands-zero-by, stands-by, falls-zero}
+use Rattle.game.proofs.Rules.{stands-zero-at, stands-at, falls-at, stands-read, falls-mono}
 
 -- From the game to the rules: after one turn the same choice still forces, within one turn less.
 module _ (B : Book) (σ : ℕ → ℕ) where

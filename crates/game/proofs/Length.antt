@@ -1,14 +1,15 @@
 -- Each round up to the last settles one more statement: the ground of the bound on lengths.
-use mathlib.Core.Bool.{Bool, false, not, _||_}
-use mathlib.Core.Logic.{_⊎_, inl, inr}
-use Prim.Native.Nat.{ℕ, zero, suc, _<_}
+use mathlib.Core.Bool.{Bool, not, false, _||_}
+use mathlib.Core.Logic.{inl, inr, _⊎_}
+use Prim.Native.Nat.{ℕ, suc, zero, _<_}
 use native.Mathlib.Omega.{arith}
 use lib.Dec.{T}
 use Rattle.game.specs.Book.{Book, Objects, count}
 use Rattle.game.specs.Rules.{fallsWithin, standsWithin}
-use Rattle.game.proofs.Search.{clash, refute, or-left, or-right, or-cases}
-use Rattle.game.proofs.Rules.{FallsWithin, StandsWithin, unanswered, falls-zero, falls-by, falls-at, stands-at, stands-zero-by, stands-read, falls-mono, stands-mono, exclusive}
-use Rattle.game.proofs.Count.{count-le, count-strict}
+use Rattle.game.proofs.Search.{or-left, or-right, or-cases, refute, clash}
+use Rattle.game.proofs.Rules.{FallsWithin, StandsWithin, falls-mono, stands-mono, falls-at, exclusive, falls-by}
+use Rattle.game.proofs.Rules.{stands-zero-by, stands-read, falls-zero, stands-at, unanswered}
+use Rattle.game.proofs.Count.{count-strict, count-le}
 
 module _ (B : Book) where
   -- x falls or stands within n turns

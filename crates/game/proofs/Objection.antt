@@ -1,18 +1,19 @@
 -- Every objection between listed statements has exactly one kind, and none stands at a place of the table that says
--- "never occurs". What `kind_of` needs of the label numbers is here too.
+-- "never occurs". The table by the numbers of labels is here too.
 use mathlib.Core.Bool.{Bool, true, false}
-use mathlib.Core.Option.{Option, some, none}
-use mathlib.Core.Path.{_≡_, refl, sym, _∙_, ap, ap₂}
+use mathlib.Core.Option.{none, Option, some}
+use mathlib.Core.Path.{_≡_, refl, ap₂, ap}
 use Prim.Native.Nat.{ℕ, _+_, _≤_}
 use native.Mathlib.Numerals.{add-one}
 use native.Mathlib.Omega.{arith}
 use lib.Dec.{eqb}
-use Rattle.game.specs.Book.{Book, Listed, Objects}
-use Rattle.game.specs.Label.{Verdict, is-open, stands, falls, Means, labelNumber, lengthNumber}
-use Rattle.game.specs.Objection.{kindOf, OfKind, Ends}
+use Rattle.game.specs.Book.{Book, Objects, Listed}
+use Rattle.game.specs.Label.{Verdict, Means, falls, stands, is-open, labelNumber, lengthNumber}
+use Rattle.game.specs.Objection.{kindOf, OfKind}
 use Rattle.game.specs.declared.Kind.{Kind}
-use Rattle.game.specs.declared.Kind.the-variants.{Idle, Felling, Delaying, Standoff}
-use Rattle.game.proofs.Verdict.{verdict, verdict-means, means-unique, length-bound, no-standing-against-standing, no-open-against-standing, no-standing-against-open}
+use Rattle.game.specs.declared.Kind.the-variants.{Felling, Idle, Delaying, Standoff}
+use Rattle.game.proofs.Verdict.{no-standing-against-standing, no-open-against-standing, no-standing-against-open, verdict}
+use Rattle.game.proofs.Verdict.{verdict-means, means-unique}
 
 module _ (B : Book) (y x : ℕ) where
   -- the three impossible places, whether the target is read or unread
@@ -64,7 +65,7 @@ kindBy target objector length =
     (pick (eqb target 1) (pick (eqb objector 2) (some (Delaying (length + 1))) none)
     (pick (eqb objector 1) none (pick (eqb objector 2) (some Idle) (some Standoff))))
 
-kind-by : (v w : Verdict) → kindBy (labelNumber v) (labelNumber w) (lengthNumber w) ≡ kindOf v w
+pub kind-by : (v w : Verdict) → kindBy (labelNumber v) (labelNumber w) (lengthNumber w) ≡ kindOf v w
 kind-by (falls n) (stands m) = ap (λ k. some (Felling k)) (add-one m)
 kind-by (falls n) (falls m) = refl
 kind-by (falls n) is-open = refl
@@ -79,47 +80,3 @@ pub label-low : (v : Verdict) → labelNumber v ≤ 2
 label-low is-open = omega arith
 label-low (stands n) = omega arith
 label-low (falls n) = omega arith
-
-module _ (target objector length : ℕ) (e : Ends target objector length) where
-  told : kindBy target objector length ≡ kindOf (e .target-told .verdict) (e .objector-told .verdict)
-  told =
-      ap (λ l. kindBy l objector length) (e .target-told .label-is)
-      ∙ ap₂ (λ l n. kindBy (labelNumber (e .target-told .verdict)) l n) (e .objector-told .label-is) (e .objector-told .length-is)
-      ∙ kind-by (e .target-told .verdict) (e .objector-told .verdict)
-
-  -- At the place t, o of the table.
-  module _ (t o : ℕ) (at-target : target ≡ t) (at-objector : objector ≡ o) where
-    here : kindBy t o length ≡ kindOf (e .target-told .verdict) (e .objector-told .verdict)
-    here = ap₂ (λ a b. kindBy a b length) (sym at-target) (sym at-objector) ∙ told
-
-    pub kind-at : (κ : Kind) → kindBy t o length ≡ some κ → OfKind (e .book) (e .y) (e .x) κ
-    kind-at κ h = record {
-      target = e .target-told .verdict;
-      objector = e .objector-told .verdict;
-      objects = e .objects;
-      target-means = e .target-told .means;
-      objector-means = e .objector-told .means;
-      is = sym here ∙ h;
-    }
-
-    pub never-at : kindBy t o length ≡ none → ⊥
-    never-at h =
-        never-occurs (e .book) (e .y) (e .x) (e .target-told .verdict) (e .objector-told .verdict) (e .objects)
-        (e .target-told .means) (e .objector-told .means) (sym here ∙ h)
-
-  -- there are no other places
-  pub ends-low : (target ≤ 2) × (objector ≤ 2)
-  ends-low = (
-    omega (arith, e .target-told .label-is, label-low (e .target-told .verdict)),
-    omega (arith, e .objector-told .label-is, label-low (e .objector-told .verdict)),
-  )
-
-  -- an objector that is not open has a length, and one more than that fits 16 bits
-  pub ends-length : (objector ≡ 0 → ⊥) → length + 1 ≤ 65535
-  ends-length h =
-      go (e .objector-told .verdict) (e .objector-told .means) (e .objector-told .label-is) (e .objector-told .length-is)
-    where
-      go : (v : Verdict) → Means (e .book) (e .y) v → objector ≡ labelNumber v → length ≡ lengthNumber v → length + 1 ≤ 65535
-      go is-open m l n = absurd (h l)
-      go (stands k) m l n = omega (arith, length-bound (e .book) (e .y) (e .objects .0) (stands k) m, e .small)
-      go (falls k) m l n = omega (arith, length-bound (e .book) (e .y) (e .objects .0) (falls k) m, e .small)

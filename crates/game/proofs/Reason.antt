@@ -1,21 +1,21 @@
 -- Laws of reasons: what a reason reaches can be decided, its statements are those that it reaches, and the register of nothing
 -- else gives each of them the same label and length.
-use mathlib.Core.Bool.{Bool, true, false, not, _&&_, _||_}
-use mathlib.Core.Logic.{_⊎_, inl, inr, _↔_}
-use mathlib.Core.Option.{Option, some, none}
-use mathlib.Core.Path.{_≡_, refl, subst, sym, _∙_}
+use mathlib.Core.Bool.{Bool, false, true, not, _&&_, _||_}
+use mathlib.Core.Logic.{inl, inr, _⊎_, _↔_}
+use mathlib.Core.Option.{Option, none, some}
+use mathlib.Core.Path.{refl, subst, sym, _≡_, _∙_}
 use Prim.Native.Nat.{ℕ, zero, suc, _≤_, _<_}
 use native.Mathlib.Decide.{le-ind}
 use native.Mathlib.Omega.{arith}
-use lib.Dec.{T, eqb, ltb, eqb→eq, eqb-refl, ltb→lt, lt→ltb}
-use Rattle.game.specs.Book.{Book, Listed, Objects, any, count}
-use Rattle.game.specs.Label.{Verdict, is-open, stands, falls, Means}
+use lib.Dec.{T, ltb, ltb→lt, lt→ltb, eqb, eqb→eq, eqb-refl}
+use Rattle.game.specs.Book.{Book, Objects, Listed, any, count}
+use Rattle.game.specs.Label.{Verdict, Means, falls, stands, is-open}
 use Rattle.game.specs.Objection.{kindOf, OfKind}
 use Rattle.game.specs.Reason.{NotIdle, Belongs, Reaches, asked, onward, InReason, OfReason, OnlyReason}
 use Rattle.game.specs.declared.Kind.{Kind}
 use Rattle.game.specs.declared.Kind.the-variants.{Idle, Felling, Delaying, Standoff}
-use Rattle.game.proofs.Search.{decide, clash, both, and-of, or-left, or-right, or-cases, any-of, any-at}
-use Rattle.game.proofs.Count.{count-le, count-strict}
+use Rattle.game.proofs.Search.{both, and-of, or-cases, any-at, or-left, or-right, any-of, decide, clash}
+use Rattle.game.proofs.Count.{count-strict, count-le}
 use Rattle.game.proofs.Verdict.{verdict, verdict-means, means-verdict}
 use Rattle.game.proofs.Objection.{kind-unique}
 use Rattle.game.proofs.Transfer.{Needed, transfer}

@@ -1,13 +1,14 @@
 -- The rules' clauses read as facts; more turns never hurt; nothing both falls and stands.
 use mathlib.Core.Bool.{Bool, not, _&&_, _||_}
-use mathlib.Core.Logic.{_⊎_, inl, inr}
-use Prim.Native.Nat.{ℕ, zero, suc, _≤_, max}
+use mathlib.Core.Logic.{inl, inr, _⊎_}
+use Prim.Native.Nat.{ℕ, suc, zero, max, _≤_}
 use native.Mathlib.Decide.{le-ind}
 use native.Mathlib.Omega.{arith}
 use lib.Dec.{T}
-use Rattle.game.specs.Book.{Book, Objects, Objected, Read, any, all}
+use Rattle.game.specs.Book.{Book, Objects, Read, all, Objected, any}
 use Rattle.game.specs.Rules.{fallsWithin, standsWithin}
-use Rattle.game.proofs.Search.{decide, clash, refute, both, and-of, and-left, and-right, only-if, only-if-of, not-only-if, any-of, any-at, all-of, all-at, not-all}
+use Rattle.game.proofs.Search.{any-of, and-of, any-at, both, all-of, only-if-of, only-if, all-at, and-right, refute, clash}
+use Rattle.game.proofs.Search.{and-left, decide, not-all, not-only-if}
 
 abbrev pub FallsWithin : Book → ℕ → ℕ → Type 0
 FallsWithin B n x = T (fallsWithin B n x)

@@ -1,8 +1,8 @@
 -- Tests and bounded searches, read as facts.
-use mathlib.Core.Bool.{Bool, true, false, not, _&&_, _||_}
-use mathlib.Core.Logic.{_⊎_, inl, inr}
-use mathlib.Core.Path.{_≡_, refl, subst, sym}
-use Prim.Native.Nat.{ℕ, zero, suc, _≤_, _<_}
+use mathlib.Core.Bool.{Bool, not, true, false, _&&_, _||_}
+use mathlib.Core.Logic.{inl, inr, _⊎_}
+use mathlib.Core.Path.{refl, subst, sym, _≡_}
+use Prim.Native.Nat.{ℕ, suc, zero, _≤_, _<_}
 use native.Mathlib.Nat.{not-suc-le-zero}
 use native.Mathlib.Decide.{ℕ-discrete, decLe}
 use native.Mathlib.Omega.{arith}

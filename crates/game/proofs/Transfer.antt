@@ -1,15 +1,15 @@
 -- The transfer law, one for every change of a book that changes no label and no length: it is enough that the marks
 -- stay, that no objection is new, and that the objections that decide are kept.
 use mathlib.Core.Bool.{not}
-use mathlib.Core.Logic.{_⊎_, inl, inr, _↔_}
-use mathlib.Core.Path.{_≡_, refl, subst, sym, ap, _∙_}
-use Prim.Native.Nat.{ℕ, suc, _<_}
+use mathlib.Core.Logic.{inl, inr, _⊎_, _↔_}
+use mathlib.Core.Path.{refl, subst, ap, sym, _≡_, _∙_}
+use Prim.Native.Nat.{suc, ℕ, _<_}
 use lib.Dec.{T}
 use Rattle.game.specs.Book.{Book, Listed, Objects, Unread}
-use Rattle.game.specs.Label.{Verdict, is-open, stands, falls, Means}
-use Rattle.game.specs.Agree.{Fits, Agrees}
+use Rattle.game.specs.Label.{Verdict, falls, stands, is-open, Means}
+use Rattle.game.specs.Agree.{Agrees, Fits}
 use Rattle.game.proofs.Verdict.{verdict, verdict-means, means-verdict}
-use Rattle.game.proofs.Agree.{agrees-means, verdict-agrees}
+use Rattle.game.proofs.Agree.{verdict-agrees, agrees-means}
 
 -- What decides a target, by its verdict and then the objector's: the felling objections that give it its length, the
 -- delaying ones and the standoffs.

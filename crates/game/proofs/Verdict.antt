@@ -1,19 +1,20 @@
 -- Every listed statement has exactly one verdict, and it can be computed round by round. No length exceeds the number of
 -- statements less 1. What stands has only falling objectors, and what is open no standing one.
-use mathlib.Core.Bool.{Bool, true, false, not, cond}
-use mathlib.Core.Logic.{_⊎_, inl, inr, _↔_}
-use mathlib.Core.Path.{_≡_, refl, ap, subst, sym, _∙_}
+use mathlib.Core.Bool.{cond, not, Bool, true, false}
+use mathlib.Core.Logic.{inl, inr, _⊎_, _↔_}
+use mathlib.Core.Path.{refl, ap, sym, subst, _≡_, _∙_}
 use Prim.Native.Nat.{ℕ, zero, suc, _≤_, _<_, _-_}
 use native.Mathlib.Decide.{decLe}
 use native.Mathlib.Omega.{arith}
 use lib.Dec.{T}
-use Rattle.game.specs.Book.{Book, Listed, Objects, Unread}
-use Rattle.game.specs.Label.{Falls, Stands, Open, Least, Verdict, is-open, stands, falls, Means}
-use Rattle.game.specs.Rules.{fallsWithin, standsWithin}
-use Rattle.game.proofs.Search.{decide, clash, refute, least}
-use Rattle.game.proofs.Rules.{FallsWithin, StandsWithin, falls-zero, falls-by, stands-at, stands-zero-at, stands-read, falls-mono, stands-mono, exclusive}
+use Rattle.game.specs.Book.{Book, Listed, Unread, Objects}
+use Rattle.game.specs.Label.{Verdict, stands, is-open, falls, Least, Means, Falls, Stands, Open}
+use Rattle.game.specs.Rules.{standsWithin, fallsWithin}
+use Rattle.game.proofs.Search.{clash, refute, decide, least}
+use Rattle.game.proofs.Rules.{FallsWithin, StandsWithin, exclusive, falls-mono, stands-mono, falls-zero, stands-read}
+use Rattle.game.proofs.Rules.{stands-zero-at, stands-at, falls-by}
 use Rattle.game.proofs.Game.{falls-game, stands-game}
-use Rattle.game.proofs.Length.{settled, settled-falls, settled-stands, settled-cases, New, new-bound}
+use Rattle.game.proofs.Length.{settled, settled-cases, settled-falls, settled-stands, New, new-bound}
 
 -- The verdict after so many rounds. Less than `size` rounds are enough.
 unfoldable pub verdictBy : Book → ℕ → ℕ → Verdict

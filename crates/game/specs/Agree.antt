@@ -3,8 +3,8 @@
 use mathlib.Core.Logic.{_⊎_}
 use mathlib.Core.Path.{_≡_}
 use Prim.Native.Nat.{ℕ, suc, _≤_, _<_}
-use Rattle.game.specs.Book.{Book, Listed, Objects, Read, Unread}
-use Rattle.game.specs.Label.{Verdict, is-open, stands, falls}
+use Rattle.game.specs.Book.{Book, Objects, Read, Unread, Listed}
+use Rattle.game.specs.Label.{Verdict, falls, stands, is-open}
 
 -- v says of each statement a verdict. Fits B v x w: w is what the rules make of x, from what v says of its objectors.
 -- "Falls: some objector stands. Length is 1 plus the least length of a standing objector."

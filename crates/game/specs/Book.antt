@@ -1,6 +1,6 @@
 -- The register as a meaning, free of bytes, numbers and limits: a book. Also how a register that is handed over as lists
 -- makes one. What a book's statements are worth is left to Game and Label.
-use mathlib.Core.Bool.{Bool, true, false, not, cond, _&&_, _||_}
+use mathlib.Core.Bool.{Bool, not, false, true, cond, _&&_, _||_}
 use mathlib.Core.List.{List}
 use mathlib.Core.Path.{_≡_}
 use Prim.Native.Nat.{ℕ, zero, suc, _≤_, _<_}

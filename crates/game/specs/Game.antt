@@ -4,7 +4,7 @@
 -- and the play ends with no winner."
 use mathlib.Core.Logic.{_⊎_}
 use Prim.Native.Nat.{ℕ, suc, _≤_}
-use Rattle.game.specs.Book.{Book, Objects, Objected, Unread, Read}
+use Rattle.game.specs.Book.{Book, Objected, Objects, Unread, Read}
 
 -- whose turn it is, said by the speaker who keeps to a choice
 pub data Turn : Type 0 where

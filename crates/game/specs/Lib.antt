@@ -1,10 +1,11 @@
+pub mod Agree
+pub mod Argument
 pub mod Book
+pub mod Exercise
+pub mod Find
+pub mod Finish
 pub mod Game
 pub mod Label
-pub mod Rules
-pub mod Agree
 pub mod Objection
-pub mod Line
 pub mod Reason
-pub mod Finish
-pub mod Find
+pub mod Rules

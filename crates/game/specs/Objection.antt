@@ -2,11 +2,11 @@
 -- the numbers of both. The kind is the enum of the program itself: a felling or delaying one holds its length.
 use mathlib.Core.Option.{Option, some, none}
 use mathlib.Core.Path.{_≡_}
-use Prim.Native.Nat.{ℕ, suc, _<_}
+use Prim.Native.Nat.{suc, ℕ}
 use Rattle.game.specs.Book.{Book, Objects}
-use Rattle.game.specs.Label.{Verdict, is-open, stands, falls, Means, Told}
+use Rattle.game.specs.Label.{Verdict, falls, stands, is-open, Means}
 use Rattle.game.specs.declared.Kind.{Kind}
-use Rattle.game.specs.declared.Kind.the-variants.{Idle, Felling, Delaying, Standoff}
+use Rattle.game.specs.declared.Kind.the-variants.{Felling, Idle, Delaying, Standoff}
 
 -- The table of 01: the target's verdict, then the objector's. `none` stands where the table says "never occurs".
 -- "A felling or delaying objection has length 1 plus the objector's length."
@@ -44,14 +44,7 @@ kindLength (Felling n) = n
 kindLength (Delaying n) = n
 kindLength Standoff = 65535
 
--- What the program is told of an objection: the numbers of the labels of its two ends and of the objector's length, in
--- some book that is small enough for 65,535 to be no length.
-pub record Ends (target objector length : ℕ) : Type 0 where
-  pub book : Book
-  pub small : book .size < 65535
-  pub y : ℕ
-  pub x : ℕ
-  pub objects : Objects book y x
-  pub target-length : ℕ
-  pub target-told : Told book x target target-length
-  pub objector-told : Told book y objector length
+-- the kind of the table; idle where the table says "never occurs"
+abbrev pub orIdle : Option Kind → Kind
+orIdle (some κ) = κ
+orIdle none = Idle

@@ -1,4 +1,3 @@
-pub mod Parts
-pub mod Puts
-pub mod Told
 pub mod Listing
+pub mod ListingRows
+pub mod Rows

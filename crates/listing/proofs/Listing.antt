@@ -1,31 +1,30 @@
 -- A register has one listing, and that of a text that is accepted has at most 131,072 bytes.
-use mathlib.Core.List.{List, [], _∷_, _++_, map}
-use mathlib.Core.Option.{Option, some, none}
-use mathlib.Core.Path.{_≡_, sym, ap, ap₂, _∙_, subst}
+use mathlib.Core.List.{List, map, [], _∷_, _++_}
+use mathlib.Core.Option.{Option, none, some}
+use mathlib.Core.Path.{ap₂, sym, subst, ap, _≡_, _∙_}
 use Prim.Native.Nat.{ℕ, suc, _+_, _-_, _*_, _≤_, _<_}
 use native.Mathlib.Omega.{arith}
-use lib.ListN.{length, getD, length-append}
+use lib.ListN.{getD, length, length-append}
 use lib.Seq.{ext-getD}
 use Rattle.game.specs.Book.{Listed, bookOf}
-use Rattle.game.specs.Label.{Verdict, is-open, stands, falls, Means}
+use Rattle.game.specs.Label.{is-open, Verdict, stands, falls, Means}
 use Rattle.game.specs.Objection.{kindOf, OfKind}
 use Rattle.game.specs.declared.Kind.{Kind}
 use Rattle.game.specs.declared.Kind.the-variants.{Idle, Felling, Delaying, Standoff}
-use Rattle.game.proofs.Verdict.{Within, means-unique, length-bound}
+use Rattle.game.proofs.Verdict.{means-unique, Within, length-bound}
 use Rattle.game.proofs.Objection.{kind-unique}
-use Rattle.line.specs.Number.{decimal}
-use Rattle.line.specs.Lines.{lineBytes, markByte}
-use Rattle.line.specs.declared.StatementLine.{StatementLine}
-use Rattle.line.specs.declared.ObjectionLine.{ObjectionLine}
-use Rattle.line.specs.declared.Line.{Line}
-use Rattle.line.specs.declared.Line.the-variants.{Statement, Objection}
-use Rattle.register.specs.Register.{Register, marksOf, objectorsOf, targetsOf, bytes, book}
+use Rattle.register.specs.Texts.{decimal}
+use Rattle.register.specs.Lines.{lineBytes, markByte}
+use Rattle.register.specs.declared.StatementLine.{StatementLine}
+use Rattle.register.specs.declared.ObjectionLine.{ObjectionLine}
+use Rattle.register.specs.declared.Line.{Line}
+use Rattle.register.specs.declared.Line.the-variants.{Statement, Objection}
+use Rattle.register.specs.Register.{Register, book, objectorsOf, targetsOf, bytes, marksOf}
 use Rattle.register.proofs.Order.{marks-counted}
-use Rattle.rows.specs.Rows.{lengthField, kindField, header, statementRow, objectionRow}
-use Rattle.rows.specs.Said.{verdictFields, kindFields}
-use Rattle.listing.specs.Listing.{statementRows, objectionRows, listing, IsListing}
-use Rattle.writing.proofs.Digits.{four-digits}
-use Rattle.rows.proofs.Rows.{header-length, statement-length, objection-length}
+use Rattle.listing.specs.Rows.{lengthField, kindField, statementRow, verdictFields, objectionRow, kindFields, header}
+use Rattle.listing.specs.Listing.{IsListing, listing, statementRows, objectionRows}
+use Rattle.register.proofs.Digits.{four-digits}
+use Rattle.listing.proofs.Rows.{statement-length, objection-length, header-length}
 use Rattle.register.specs.Reads.{Accepts}
 
 -- What a register's listing is, is not up to the program.

@@ -5,14 +5,14 @@ use mathlib.Core.List.{List, [], _∷_, _++_}
 use mathlib.Core.Path.{_≡_}
 use Prim.Native.Nat.{ℕ, _<_}
 use lib.ListN.{length, getD}
-use Rattle.game.specs.Label.{Verdict, is-open, Means}
+use Rattle.game.specs.Label.{Verdict, Means, is-open}
 use Rattle.game.specs.Objection.{OfKind}
 use Rattle.game.specs.declared.Kind.{Kind}
 use Rattle.game.specs.declared.Kind.the-variants.{Idle}
-use Rattle.line.specs.declared.StatementLine.{StatementLine}
-use Rattle.line.specs.declared.ObjectionLine.{ObjectionLine}
-use Rattle.register.specs.Register.{Register, objectorsOf, targetsOf, book}
-use Rattle.rows.specs.Rows.{header, statementRow, objectionRow}
+use Rattle.register.specs.declared.StatementLine.{StatementLine}
+use Rattle.register.specs.declared.ObjectionLine.{ObjectionLine}
+use Rattle.register.specs.Register.{Register, book, objectorsOf, targetsOf}
+use Rattle.listing.specs.Rows.{statementRow, objectionRow, header}
 
 -- the rows of the statements with their verdicts, and of the objections with their kinds, in order
 unfoldable pub statementRows : List StatementLine → List Verdict → List ℕ

@@ -1,1 +1,12 @@
-pub mod Outcome
+pub mod Accepted
+pub mod AllLines
+pub mod KeptObjections
+pub mod Marks
+pub mod Report
+pub mod ReportRow
+pub mod Reported
+pub mod Restored
+pub mod Settling
+pub mod Staying
+pub mod TextLines
+pub mod Valid

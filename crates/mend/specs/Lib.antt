@@ -1,1 +1,5 @@
-pub mod Output
+pub mod Mended
+pub mod Report
+pub mod Restored
+pub mod Staying
+pub mod TextLines

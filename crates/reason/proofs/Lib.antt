@@ -1,2 +1,4 @@
-pub mod Named
-pub mod Printed
+pub mod Alone
+pub mod Keep
+pub mod KeepRows
+pub mod Reasons

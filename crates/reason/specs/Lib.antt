@@ -1,2 +1,2 @@
-pub mod Asked
-pub mod Output
+pub mod Alone
+pub mod Reasons

@@ -1,4 +1,8 @@
+pub mod Digits
+pub mod Lines
+pub mod Number
+pub mod OneMore
 pub mod Order
-pub mod Steps
 pub mod Settled
+pub mod TextRows
 pub mod Unique

@@ -1,20 +1,21 @@
 -- The lists that a register in order makes are in order themselves.
-use mathlib.Core.List.{List, [], _∷_, map}
-use mathlib.Core.Path.{_≡_, refl, sym, ap, _∙_}
-use Prim.Native.Nat.{ℕ, zero, suc, _≤_, _<_}
+use mathlib.Core.List.{List, map, [], _∷_}
+use mathlib.Core.Path.{refl, ap, sym, _≡_, _∙_}
+use Prim.Native.Nat.{ℕ, suc, zero, _≤_, _<_}
 use native.Mathlib.Nat.{not-suc-le-zero, le-of-suc-le-suc}
-use native.Mathlib.Decide.{ℕ-discrete}
+use native.Mathlib.Decide.{ℕ-discrete, decLt}
 use native.Mathlib.Omega.{arith}
 use lib.Dec.{eqb}
 use lib.ListN.{length, getD, length-map}
-use Rattle.game.specs.Book.{InOrder}
-use Rattle.line.specs.Lines.{markNumber}
-use Rattle.line.specs.declared.Mark.{Mark}
-use Rattle.line.specs.declared.Mark.the-variants.{Read, Unread}
-use Rattle.line.specs.declared.StatementLine.{StatementLine}
-use Rattle.line.specs.declared.ObjectionLine.{ObjectionLine}
-use Rattle.register.specs.Register.{Register, numbers, objectorNumbers, targetNumbers, Issued, Valid, pick, placeOf, marksOf, objectorsOf, targetsOf}
 use borrow.Author.Tests.{eq-eqb, ne-eqb}
+use Rattle.game.specs.Book.{InOrder}
+use Rattle.register.specs.Lines.{markNumber}
+use Rattle.register.specs.declared.Mark.{Mark}
+use Rattle.register.specs.declared.Mark.the-variants.{Read, Unread}
+use Rattle.register.specs.declared.StatementLine.{StatementLine}
+use Rattle.register.specs.declared.ObjectionLine.{ObjectionLine}
+use Rattle.register.specs.Register.{placeOf, pickPlace, Register, Issued, numbers, Valid, marksOf, objectorsOf}
+use Rattle.register.specs.Register.{objectorNumbers, targetsOf, targetNumbers, Places}
 
 -- a number that is there has its place among the others
 pub place-listed : (ns : List ℕ) (v i : ℕ) → i < length ns → getD ns i 0 ≡ v → placeOf ns v < length ns
@@ -24,7 +25,7 @@ place-listed (a ∷ ns) v i l e = go (ℕ-discrete a v) i l e (λ j k q. place-l
   where
     go : Dec (a ≡ v) → (i : ℕ) → i < length (a ∷ ns) → getD (a ∷ ns) i 0 ≡ v
         → ((j : ℕ) → j < length ns → getD ns j 0 ≡ v → placeOf ns v < length ns)
-        → pick (eqb a v) 0 (suc (placeOf ns v)) < length (a ∷ ns)
+        → pickPlace (eqb a v) 0 (suc (placeOf ns v)) < length (a ∷ ns)
     go (yes p) i l e f = rw (eq-eqb a v p) (omega arith)
     go (no p) zero l e f = absurd (p e)
     go (no p) (suc i) l e f = rw (ne-eqb a v p) (let h : placeOf ns v < length ns = f i (le-of-suc-le-suc l) e in omega arith)
@@ -37,7 +38,7 @@ place-holds (a ∷ ns) v i l e = go (ℕ-discrete a v) i l e (λ j k q. place-ho
   where
     go : Dec (a ≡ v) → (i : ℕ) → i < length (a ∷ ns) → getD (a ∷ ns) i 0 ≡ v
         → ((j : ℕ) → j < length ns → getD ns j 0 ≡ v → getD ns (placeOf ns v) 0 ≡ v)
-        → getD (a ∷ ns) (pick (eqb a v) 0 (suc (placeOf ns v))) 0 ≡ v
+        → getD (a ∷ ns) (pickPlace (eqb a v) 0 (suc (placeOf ns v))) 0 ≡ v
     go (yes p) i l e f = rw (eq-eqb a v p) p
     go (no p) zero l e f = absurd (p e)
     go (no p) (suc i) l e f = rw (ne-eqb a v p) (f i (le-of-suc-le-suc l) e)
@@ -105,3 +106,12 @@ module _ (R : Register) (valid : Valid R) where
         (omega (arith, h, objectors-counted, length-map (R .objections) (λ (o : ObjectionLine). o .target))))
         (listed (getD (targetNumbers R) k 0) (valid .known k (omega (arith, h, objectors-counted)) .1));
   }
+
+-- a number stands at one place
+pub place-once : (R : Register) → Valid R → (number x x′ : ℕ) → Places R number x → Places R number x′ → x ≡ x′
+place-once R v number x x′ (h, e) (h′, e′) = go (decLt x x′) (decLt x′ x)
+  where
+    go : Dec (x < x′) → Dec (x′ < x) → x ≡ x′
+    go (yes l) d = absurd (v .once x x′ l h′ (e ∙ sym e′))
+    go (no n) (yes l) = absurd (v .once x′ x l h (e′ ∙ sym e))
+    go (no n) (no m) = omega arith

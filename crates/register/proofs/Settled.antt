@@ -1,25 +1,28 @@
 -- Demand 1 of texts: every text is accepted or refused, without a word about the code. Whether a line stands somewhere is
 -- decided by asking of every line whether it does.
-use mathlib.Core.List.{List, [], _∷_, _++_, append-assoc}
-use mathlib.Core.Logic.{_⊎_, inl, inr}
-use mathlib.Core.Path.{_≡_, refl, sym, ap, _∙_, subst}
+use mathlib.Core.List.{List, append-assoc, [], _∷_, _++_}
+use mathlib.Core.Logic.{inl, inr, _⊎_}
+use mathlib.Core.Path.{subst, refl, _≡_, ap, sym, _∙_}
 use Prim.Native.Nat.{ℕ, zero, suc, _+_, _-_, _≤_, _<_}
-use native.Mathlib.Decide.{ℕ-discrete, decLt}
+use native.Mathlib.Decide.{decLt, ℕ-discrete}
 use native.Mathlib.Omega.{arith}
 use lib.ListN.{length, getD, length-append}
-use Rattle.line.specs.Number.{IsNumber}
-use Rattle.line.specs.Lines.{lineBytes, BeginsWith}
-use Rattle.line.specs.declared.Mark.{Mark}
-use Rattle.line.specs.declared.Mark.the-variants.{Read, Unread}
-use Rattle.line.specs.declared.StatementLine.{StatementLine}
-use Rattle.line.specs.declared.ObjectionLine.{ObjectionLine}
-use Rattle.line.specs.declared.Line.{Line}
-use Rattle.line.specs.declared.Line.the-variants.{Statement, Objection}
-use Rattle.refusal.specs.declared.Refusal.{Refusal}
-use Rattle.refusal.specs.declared.Refusal.the-variants.{TooLong, Unended, Spoiled, Late, Issued, Statements, Unknown, Repeated, Objections}
-use Rattle.register.specs.Register.{Register, bare, Valid, numbers, objectorNumbers, targetNumbers, written, bytes, Issued as OnRegister, Has}
-use Rattle.register.proofs.Steps.{empty-valid, with-statement, with-objection, no-objections, written-statement, written-objection, valid-statement, valid-objection}
-use Rattle.register.specs.Reads.{Accepts, NotEnded, Reached, Refuses}
+use Rattle.register.specs.Number.{IsNumber}
+use Rattle.register.specs.Lines.{BeginsWith, lineBytes}
+use Rattle.register.specs.declared.Mark.{Mark}
+use Rattle.register.specs.declared.Mark.the-variants.{Read, Unread}
+use Rattle.register.specs.declared.StatementLine.{StatementLine}
+use Rattle.register.specs.declared.ObjectionLine.{ObjectionLine}
+use Rattle.register.specs.declared.Line.{Line}
+use Rattle.register.specs.declared.Line.the-variants.{Statement, Objection}
+use Rattle.answer.specs.declared.Refusal.{Refusal}
+use Rattle.answer.specs.declared.Refusal.the-variants.{Late, Statements, Issued, Objections, Unknown, Repeated, Spoiled, TooLong}
+use Rattle.answer.specs.declared.Refusal.the-variants.{Unended}
+use Rattle.register.specs.Register.{Register, Issued as OnRegister, numbers, Has, objectorNumbers, targetNumbers, Valid}
+use Rattle.register.specs.Register.{written, bare, bytes}
+use Rattle.register.proofs.OneMore.{no-objections, with-statement, valid-statement, written-statement, with-objection}
+use Rattle.register.proofs.OneMore.{valid-objection, written-objection, empty-valid}
+use Rattle.register.specs.Reads.{Accepts, Refuses, NotEnded, FaultAt}
 
 -- it holds, or it does not
 abbrev pub Settles : Type 0 → Type 0
@@ -145,7 +148,7 @@ nil (b ∷ u) = ap (λ v. b ∷ v) (nil u)
 -- a text that fits and is ended, line by line
 module _ (s : List ℕ) (fits : length s ≤ 65535) (ended : ¬ NotEnded s) where
   reached : (R : Register) (rest : List ℕ) (Fault : Register → List ℕ → Type 0) → Valid R → s ≡ written R ++ rest → Fault R rest
-      → Reached s (suc (length (R .statements) + length (R .objections))) Fault
+      → FaultAt s (suc (length (R .statements) + length (R .objections))) Fault
   reached R rest Fault v e f =
       record { fits = fits; ended = ended; before = R; rest = rest; valid = v; is-written = e; line = refl; fault = f }
 

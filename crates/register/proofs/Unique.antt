@@ -1,24 +1,26 @@
 -- A text is read in one way: it is the written form of one register at most, it is never both accepted and refused, and it
 -- gets one refusal at most. Two registers that one text begins with are such that the one's lines go on after the other's,
 -- and no row of the table applies to a line with which a register goes on.
-use mathlib.Core.List.{List, [], _∷_, _++_, map, append-assoc, append-nil}
-use mathlib.Core.Logic.{_⊎_, inl, inr}
-use mathlib.Core.Path.{_≡_, refl, sym, ap, subst, subst₃, _∙_}
+use mathlib.Core.List.{List, append-assoc, map, append-nil, [], _∷_, _++_}
+use mathlib.Core.Logic.{inl, inr, _⊎_}
+use mathlib.Core.Path.{refl, sym, ap, _≡_, subst, subst₃, _∙_}
 use Prim.Native.Nat.{ℕ, suc, _+_, _-_, _≤_, _<_}
 use native.Mathlib.Omega.{arith}
-use lib.ListN.{length, getD, length-append, length-map, List·getD-append}
+use lib.ListN.{length, getD, length-append, List·getD-append, length-map}
 use lib.Seq.{getD-at}
-use Rattle.line.specs.Number.{IsNumber}
-use Rattle.line.specs.Lines.{lineBytes, WellFormed, BeginsWith}
-use Rattle.line.specs.declared.StatementLine.{StatementLine}
-use Rattle.line.specs.declared.ObjectionLine.{ObjectionLine}
-use Rattle.line.specs.declared.Line.{Line}
-use Rattle.line.specs.declared.Line.the-variants.{Statement, Objection}
-use Rattle.line.proofs.Lines.{line-once, line-not-empty, line-ended}
-use Rattle.refusal.specs.declared.Refusal.{Refusal}
-use Rattle.refusal.specs.declared.Refusal.the-variants.{TooLong, Unended, Spoiled, Late, Issued, Statements, Unknown, Repeated, Objections, Room, Unequal, Mark, Place, Asked, Turns, Sheet}
-use Rattle.register.specs.Register.{Register, Valid, numbers, objectorNumbers, targetNumbers, Issued as OnRegister, Has, lines, bytes, written}
-use Rattle.register.specs.Reads.{Accepts, NotEnded, Reached, Refuses}
+use Rattle.register.specs.Number.{IsNumber}
+use Rattle.register.specs.Lines.{WellFormed, BeginsWith, lineBytes}
+use Rattle.register.specs.declared.StatementLine.{StatementLine}
+use Rattle.register.specs.declared.ObjectionLine.{ObjectionLine}
+use Rattle.register.specs.declared.Line.{Line}
+use Rattle.register.specs.declared.Line.the-variants.{Statement, Objection}
+use Rattle.register.proofs.Lines.{line-once, line-not-empty, line-ended}
+use Rattle.answer.specs.declared.Refusal.{Refusal}
+use Rattle.answer.specs.declared.Refusal.the-variants.{Late, Statements, Issued, Objections, Unknown, Repeated, Spoiled, TooLong}
+use Rattle.answer.specs.declared.Refusal.the-variants.{Unended, Room, Unequal, Mark, Place, Asked, Turns, Sheet}
+use Rattle.register.specs.Register.{bytes, Register, Valid, Issued as OnRegister, lines, objectorNumbers, targetNumbers}
+use Rattle.register.specs.Register.{numbers, Has, written}
+use Rattle.register.specs.Reads.{NotEnded, FaultAt, Refuses, Accepts}
 
 -- every line is well formed
 abbrev pub Formed : List Line → Type 0
@@ -321,10 +323,10 @@ stop-inside (by-row l (h, (t, e)) a) = omega (arith, ap length e, line-not-empty
 data Cause (s : List ℕ) : Refusal → Type 0 where
   too-long : 65535 < length s → Cause s TooLong
   unended : length s ≤ 65535 → NotEnded s → Cause s Unended
-  stopped : {r : Refusal} (k : ℕ) → Reached s k (λ R rest. Stop R rest k r) → Cause s r
+  stopped : {r : Refusal} (k : ℕ) → FaultAt s k (λ R rest. Stop R rest k r) → Cause s r
 
 reached-as : {s : List ℕ} {k : ℕ} {F G : Register → List ℕ → Type 0} → ((R : Register) (rest : List ℕ) → F R rest → G R rest)
-    → Reached s k F → Reached s k G
+    → FaultAt s k F → FaultAt s k G
 reached-as f p =
     record {
       fits = p .fits;
@@ -359,8 +361,8 @@ cause s Turns p = absurd p
 cause s Sheet p = absurd p
 
 -- the reading stops at one line, for one reason
-stopped-once : (s : List ℕ) (k k′ : ℕ) (r r′ : Refusal) → Reached s k (λ R rest. Stop R rest k r)
-    → Reached s k′ (λ R rest. Stop R rest k′ r′) → r ≡ r′
+stopped-once : (s : List ℕ) (k k′ : ℕ) (r r′ : Refusal) → FaultAt s k (λ R rest. Stop R rest k r)
+    → FaultAt s k′ (λ R rest. Stop R rest k′ r′) → r ≡ r′
 unfolding bytes
 stopped-once s k k′ r r′ p q =
     go (one-goes-on (lines (p .before)) (lines (q .before)) (p .rest) (q .rest) (lines-formed (p .before) (p .valid))
@@ -412,7 +414,7 @@ pub not-both : (s : List ℕ) (R : Register) (r : Refusal) → Accepts s R → R
 unfolding bytes
 not-both s R r a p = by (cause s r p)
   where
-    at-end : (b : Refusal) (k : ℕ) (q : Reached s k (λ B rest. Stop B rest k b))
+    at-end : (b : Refusal) (k : ℕ) (q : FaultAt s k (λ B rest. Stop B rest k b))
         → GoesOn (lines (q .before)) (q .rest) (lines R) [] ⊎ GoesFurther (lines R) [] (lines (q .before)) (q .rest) → ⊥
     at-end b k q (inl ([], e, f)) = omega (arith, ap length f, stop-inside (q .fault))
     at-end b k q (inl (l ∷ more, e, f)) = no-stop (q .before) R (q .rest) [] l more k b (a .valid) e f (q .fault)

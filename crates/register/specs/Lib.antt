@@ -1,2 +1,5 @@
-pub mod Register
+pub mod Lines
+pub mod Number
 pub mod Reads
+pub mod Register
+pub mod Texts

@@ -5,13 +5,14 @@ use mathlib.Core.List.{List, _++_}
 use mathlib.Core.Path.{_≡_}
 use Prim.Native.Nat.{ℕ, suc, _+_, _-_, _≤_, _<_}
 use lib.ListN.{length, getD}
-use Rattle.line.specs.Lines.{BeginsWith}
-use Rattle.line.specs.declared.StatementLine.{StatementLine}
-use Rattle.line.specs.declared.ObjectionLine.{ObjectionLine}
-use Rattle.line.specs.declared.Line.{Line}
-use Rattle.line.specs.declared.Line.the-variants.{Statement, Objection}
-use Rattle.refusal.specs.declared.Refusal.{Refusal}
-use Rattle.refusal.specs.declared.Refusal.the-variants.{TooLong, Unended, Spoiled, Late, Issued, Statements, Unknown, Repeated, Objections, Room, Unequal, Mark, Place, Asked, Turns, Sheet}
+use Rattle.register.specs.Lines.{BeginsWith}
+use Rattle.register.specs.declared.StatementLine.{StatementLine}
+use Rattle.register.specs.declared.ObjectionLine.{ObjectionLine}
+use Rattle.register.specs.declared.Line.{Line}
+use Rattle.register.specs.declared.Line.the-variants.{Statement, Objection}
+use Rattle.answer.specs.declared.Refusal.{Refusal}
+use Rattle.answer.specs.declared.Refusal.the-variants.{TooLong, Unended, Spoiled, Late, Statements, Issued, Objections, Unknown}
+use Rattle.answer.specs.declared.Refusal.the-variants.{Repeated, Room, Unequal, Mark, Place, Asked, Turns, Sheet}
 use Rattle.register.specs.Register.{Register, Valid, written, Issued as OnRegister, Has}
 
 -- "At most 65,535 bytes, 1,024 statements, 4,096 objections."
@@ -25,7 +26,7 @@ abbrev pub NotEnded : List ℕ → Type 0
 NotEnded s = (0 < length s) × (getD s (length s - 1) 0 ≡ 10 → ⊥)
 
 -- The lines before line k are in order, the register R, and what follows them, `rest`, is at fault. Lines are counted from 1.
-pub record Reached (s : List ℕ) (k : ℕ) (Fault : Register → List ℕ → Type 0) : Type 0 where
+pub record FaultAt (s : List ℕ) (k : ℕ) (Fault : Register → List ℕ → Type 0) : Type 0 where
   pub fits : length s ≤ 65535
   pub ended : ¬ NotEnded s
   pub before : Register
@@ -46,19 +47,19 @@ NextObjection rest Fault = (o : ObjectionLine) × BeginsWith (Objection o) rest 
 abbrev pub Refuses : List ℕ → Refusal → Type 0
 Refuses s TooLong = 65535 < length s
 Refuses s Unended = (length s ≤ 65535) × NotEnded s
-Refuses s (Spoiled k) = Reached s k (λ R rest. (0 < length rest) × ((l : Line) → ¬ BeginsWith l rest))
-Refuses s (Late k) = Reached s k (λ R rest. NextStatement rest (λ st. 0 < length (R .objections)))
+Refuses s (Spoiled k) = FaultAt s k (λ R rest. (0 < length rest) × ((l : Line) → ¬ BeginsWith l rest))
+Refuses s (Late k) = FaultAt s k (λ R rest. NextStatement rest (λ st. 0 < length (R .objections)))
 Refuses s (Statements k) =
-    Reached s k (λ R rest. NextStatement rest (λ st. (length (R .objections) ≡ 0) × (1024 ≤ length (R .statements))))
+    FaultAt s k (λ R rest. NextStatement rest (λ st. (length (R .objections) ≡ 0) × (1024 ≤ length (R .statements))))
 Refuses s (Issued k) =
-    Reached s k (λ R rest. NextStatement rest
+    FaultAt s k (λ R rest. NextStatement rest
     (λ st. (length (R .objections) ≡ 0) × (length (R .statements) < 1024) × OnRegister R (st .number)))
-Refuses s (Objections k) = Reached s k (λ R rest. NextObjection rest (λ o. 4096 ≤ length (R .objections)))
+Refuses s (Objections k) = FaultAt s k (λ R rest. NextObjection rest (λ o. 4096 ≤ length (R .objections)))
 Refuses s (Unknown k) =
-    Reached s k (λ R rest. NextObjection rest
+    FaultAt s k (λ R rest. NextObjection rest
     (λ o. (length (R .objections) < 4096) × ¬ (OnRegister R (o .objector) × OnRegister R (o .target))))
 Refuses s (Repeated k) =
-    Reached s k (λ R rest. NextObjection rest
+    FaultAt s k (λ R rest. NextObjection rest
     (λ o. (length (R .objections) < 4096) × OnRegister R (o .objector) × OnRegister R (o .target) × Has R (o .objector) (o .target)))
 Refuses s Room = ⊥
 Refuses s Unequal = ⊥

@@ -1,18 +1,18 @@
 -- A register as a text has it: statement lines and objection lines, by numbers; how it is written; and the book that it
 -- makes, by places in listed order.
 use mathlib.Core.Bool.{Bool, true, false}
-use mathlib.Core.List.{List, [], _∷_, _++_, map}
+use mathlib.Core.List.{List, map, [], _∷_, _++_}
 use mathlib.Core.Path.{_≡_}
 use Prim.Native.Nat.{ℕ, suc, _≤_, _<_}
 use lib.Dec.{eqb}
 use lib.ListN.{length, getD}
 use Rattle.game.specs.Book.{Book, bookOf}
-use Rattle.line.specs.Number.{IsNumber}
-use Rattle.line.specs.Lines.{lineBytes, markNumber}
-use Rattle.line.specs.declared.StatementLine.{StatementLine}
-use Rattle.line.specs.declared.ObjectionLine.{ObjectionLine}
-use Rattle.line.specs.declared.Line.{Line}
-use Rattle.line.specs.declared.Line.the-variants.{Statement, Objection}
+use Rattle.register.specs.Number.{IsNumber}
+use Rattle.register.specs.Lines.{lineBytes, markNumber}
+use Rattle.register.specs.declared.StatementLine.{StatementLine}
+use Rattle.register.specs.declared.ObjectionLine.{ObjectionLine}
+use Rattle.register.specs.declared.Line.{Line}
+use Rattle.register.specs.declared.Line.the-variants.{Statement, Objection}
 
 pub record Register : Type 0 where
   pub statements : List StatementLine
@@ -63,13 +63,13 @@ abbrev pub written : Register → List ℕ
 written R = bytes (lines R)
 
 -- the place of a number: how many statements are listed before it
-abbrev pub pick : Bool → ℕ → ℕ → ℕ
-pick true a b = a
-pick false a b = b
+abbrev pub pickPlace : Bool → ℕ → ℕ → ℕ
+pickPlace true a b = a
+pickPlace false a b = b
 
 unfoldable pub placeOf : List ℕ → ℕ → ℕ
 placeOf [] n = 0
-placeOf (m ∷ ms) n = pick (eqb m n) 0 (suc (placeOf ms n))
+placeOf (m ∷ ms) n = pickPlace (eqb m n) 0 (suc (placeOf ms n))
 
 -- the lists that the register makes, and its book
 abbrev pub marksOf : Register → List ℕ
@@ -83,3 +83,7 @@ targetsOf R = map (placeOf (numbers R)) (targetNumbers R)
 
 abbrev pub book : Register → Book
 book R = bookOf (marksOf R) (objectorsOf R) (targetsOf R)
+
+-- the statement of this number is at the place x
+abbrev pub Places : Register → ℕ → ℕ → Type 0
+Places R number x = (x < length (numbers R)) × (getD (numbers R) x 0 ≡ number)

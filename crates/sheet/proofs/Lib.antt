@@ -1,4 +1,2 @@
-pub mod Bytes
-pub mod Totals
-pub mod Steps
+pub mod Codes
 pub mod Sheets

@@ -4,8 +4,8 @@ use mathlib.Core.List.{List}
 use mathlib.Core.Path.{_≡_}
 use Prim.Native.Nat.{ℕ, _+_, _/_, _%_, _^_, _≤_, _<_}
 use lib.Dec.{eqb}
-use lib.ListN.{length, getD}
-use Rattle.game.specs.Book.{Book, Listed, count}
+use lib.ListN.{getD, length}
+use Rattle.game.specs.Book.{count, Book, Listed}
 use Rattle.game.specs.Label.{Verdict, Means, labelNumber}
 
 -- "Two bits for each statement in listed order, four to a byte, the first in the lowest bits": the code at a place of a byte, and
@@ -42,9 +42,3 @@ pub record SoundSheet (n : ℕ) (sheet totals : List ℕ) : Type 0 where
   pub used : (x : ℕ) → x < n → codeAt sheet x < codes
   pub spare : (x : ℕ) → n ≤ x → codeAt sheet x ≡ 0
   pub own : (c : ℕ) → c < codes → c < length totals → getD totals c 0 ≡ total sheet n c
-
--- What setting the code of x does: it is read back, every other code is as it was, and so is every other byte.
-pub record CodeSet (old : List ℕ) (x code : ℕ) (new : List ℕ) : Type 0 where
-  pub has : codeAt new x ≡ code
-  pub others : (y : ℕ) → (y ≡ x → ⊥) → codeAt new y ≡ codeAt old y
-  pub bytes : (k : ℕ) → (k ≡ x / 4 → ⊥) → getD new k 0 ≡ getD old k 0

@@ -1,8 +1,8 @@
 -- `bench_solver_label` answers 1 only after the solver was lent lists in order.
 use native.Mathlib.Omega.{arith}
-use Rattle.pairs.specs.Refuses.{BadMark, BadPlace}
+use Rattle.lists.specs.Refuses.{BadMark, BadPlace}
 use Rattle.game.proofs.Find.{found-clear}
-use Rattle.pairs.proofs.Laws.{in-order}
+use Rattle.lists.proofs.Refuses.{in-order}
 use borrow.Author.Needs.{needs}
 use Rattle.bench_solver.proofs.bench_solver_label.Statement.{statement}
 use Rattle.bench_solver.proofs.bench_solver_label.Tie as tie

@@ -1,2 +1,0 @@
-pub mod Keep
-pub mod Alone

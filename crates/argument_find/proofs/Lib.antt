@@ -1,0 +1,3 @@
+pub mod ArgumentSteps
+pub mod Earliest
+pub mod Room

@@ -1,4 +1,0 @@
-pub mod Steps
-pub mod Counts
-pub mod Links
-pub mod Runs

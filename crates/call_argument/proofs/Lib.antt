@@ -1,0 +1,2 @@
+pub mod NumberGiven
+pub mod PlaceGiven

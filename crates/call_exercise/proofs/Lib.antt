@@ -1,0 +1,2 @@
+pub mod NumberAnswered
+pub mod PlaceAnswered

@@ -1,0 +1,3 @@
+pub mod AskedReason
+pub mod ReadyReason
+pub mod ReasonRows

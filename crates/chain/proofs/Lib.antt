@@ -1,2 +1,0 @@
-pub mod Links
-pub mod Walks

@@ -1,2 +1,0 @@
-pub mod Chained
-pub mod Handed

@@ -1,3 +1,0 @@
-pub mod Agreement
-pub mod Ends
-pub mod Parts

@@ -1,0 +1,4 @@
+pub mod Counts
+pub mod LabelSteps
+pub mod QueueLinks
+pub mod Runs

@@ -1,0 +1,2 @@
+pub mod LabelState
+pub mod Queue

@@ -1,4 +1,0 @@
-pub mod Number
-pub mod Reading
-pub mod Fields
-pub mod Lines

@@ -1,3 +1,0 @@
-pub mod Views
-pub mod Links
-pub mod Meets

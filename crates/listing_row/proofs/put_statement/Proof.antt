@@ -1,0 +1,60 @@
+-- `put_statement` puts the pieces of a row one behind the other.
+use native.Mathlib.Omega.{arith}
+use Rattle.listing_row.specs.Said.{said}
+use Rattle.listing.proofs.Rows.{statement-length}
+use Rattle.listing_row.proofs.RowPieces.{statement-put}
+use borrow.Author.Needs.{needs}
+use Rattle.listing_row.proofs.put_statement.Statement.{statement}
+use Rattle.listing_row.proofs.put_statement.Tie as tie
+
+put-decimal-requires : tie.Need-put-decimal-requires
+put-decimal-requires c κs =
+    let args = c .before .before .args in
+    omega (arith, statement-length (args .number) (said (args .label) (args .turns)))
+
+slice-aggregate-put-word : tie.Need-slice-aggregate-put-word
+slice-aggregate-put-word c = search needs
+
+put-word-requires : tie.Need-put-word-requires
+put-word-requires c κs =
+    let args = c .before .before .before .before .before .before .before .args in
+    omega (arith, statement-length (args .number) (said (args .label) (args .turns)))
+
+put-verdict-requires : tie.Need-put-verdict-requires
+put-verdict-requires c κs =
+    let args = c .before .before .before .before .before .before .before .before .before .before .before .args in
+    omega (arith, statement-length (args .number) (said (args .label) (args .turns)))
+
+slice-aggregate-put-word-2 : tie.Need-slice-aggregate-put-word-2
+slice-aggregate-put-word-2 c = search needs
+
+put-word-requires-2 : tie.Need-put-word-requires-2
+put-word-requires-2 c κs =
+    let args = c .before .before .before .before .before .before .before .before .before .before .before .before .before .before .before .before .args in
+    omega (arith, statement-length (args .number) (said (args .label) (args .turns)))
+
+same-length : tie.Need-same-length
+same-length c = search needs
+
+returns : tie.Need-returns
+returns c =
+    let args = c .before .before .before .before .before .before .before .before .before .before .before .before .before .before .before .before .before .before .before .args in
+    let pre = c .before .before .before .before .before .before .before .before .before .before .before .before .before .before .before .before .before .before .before .pre in
+    let put-decimal = c .before .before .before .before .before .before .before .before .before .before .before .before .before .before .before .before .put-decimal in
+    let put-word = c .before .before .before .before .before .before .before .before .before .before .before .put-word in
+    let put-verdict = c .before .before .before .before .before .before .before .put-verdict in
+    statement-put (args .room .now) (args .at) (args .number) (said (args .label) (args .turns)) pre (put-decimal .ensures)
+    (put-word .ensures) (put-verdict .ensures) (c .before .before .put-word2 .ensures)
+
+pub put-statement-spec : {M : Type 1} → statement M
+put-statement-spec =
+    tie.close
+    (tie.spec
+    put-decimal-requires
+    slice-aggregate-put-word
+    put-word-requires
+    put-verdict-requires
+    slice-aggregate-put-word-2
+    put-word-requires-2
+    same-length
+    returns)

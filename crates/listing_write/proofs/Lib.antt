@@ -1,0 +1,3 @@
+pub mod ListingParts
+pub mod ListingPut
+pub mod ListingTold

@@ -1,0 +1,3 @@
+pub mod LineAt
+pub mod Loops
+pub mod Passing

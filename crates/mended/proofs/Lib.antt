@@ -1,9 +1,0 @@
-pub mod Lines
-pub mod Settling
-pub mod Valid
-pub mod Passes
-pub mod Staying
-pub mod Marks
-pub mod Objections
-pub mod Accepted
-pub mod Restored

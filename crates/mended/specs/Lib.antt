@@ -1,4 +1,0 @@
-pub mod TextLines
-pub mod Mended
-pub mod Staying
-pub mod Restored

@@ -1,0 +1,2 @@
+pub mod ChainSteps
+pub mod ChainWalks

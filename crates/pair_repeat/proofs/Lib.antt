@@ -1,0 +1,3 @@
+pub mod Entered
+pub mod PairSearch
+pub mod Unpacked

@@ -1,0 +1,3 @@
+pub mod LinkSteps
+pub mod Meets
+pub mod Views

@@ -1,0 +1,35 @@
+-- The promise of the call for kinds on handed lists: they are those of the book that the lists make.
+use mathlib.Core.List.{List}
+use mathlib.Core.Logic.{_⊎_}
+use mathlib.Core.Path.{_≡_}
+use Prim.Native.Nat.{ℕ, _<_}
+use lib.ListN.{length, getD}
+use Rattle.game.specs.Book.{bookOf}
+use Rattle.game.specs.Objection.{OfKind, kindNumber, kindLength}
+use Rattle.game.specs.declared.Kind.{Kind}
+use Rattle.lists.specs.Refuses.{Lists}
+use Rattle.answer.specs.Answer.{Begins, Promised, Short}
+use Rattle.answer.specs.declared.Answer.{Answer}
+use Rattle.promises.specs.OnLists.{ListsRefuse}
+
+-- either room is shorter than the answer
+abbrev pub KindsShort : (objectors : List ℕ) → List ℕ × List ℕ → Type 0
+KindsShort objectors rooms = (length (rooms .0) < length objectors) ⊎ (length (rooms .1) < length objectors)
+
+module _ (marks objectors targets : List ℕ) where
+  -- a number for each objection, in the order of the lists
+  abbrev pub Objections : (Kind → ℕ) → ℕ → List ℕ → List ℕ → Type 0
+  Objections number n room after =
+      Begins n
+      (λ k e. (κ : Kind) × OfKind (bookOf marks objectors targets) (getD objectors k 0) (getD targets k 0) κ × (e ≡ number κ))
+      room after
+
+  -- kinds and lengths, each in its own room
+  abbrev pub KindsGiven : List ℕ × List ℕ → ℕ → List ℕ × List ℕ → Type 0
+  KindsGiven rooms n after =
+      Lists marks objectors targets × (n ≡ length objectors)
+      × Objections kindNumber n (rooms .0) (after .0) × Objections kindLength n (rooms .1) (after .1)
+
+  abbrev pub PairsKinds : List ℕ × List ℕ → Answer → List ℕ × List ℕ → Type 0
+  PairsKinds rooms a after =
+      Promised (ListsRefuse marks objectors targets (Short (KindsShort objectors rooms))) (KindsGiven rooms) rooms a after

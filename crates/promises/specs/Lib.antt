@@ -1,0 +1,12 @@
+pub mod ArgumentCalls
+pub mod Demands
+pub mod ExerciseCalls
+pub mod KindCalls
+pub mod LabelCalls
+pub mod ListingCalls
+pub mod MendCalls
+pub mod OnLists
+pub mod OnText
+pub mod Programs
+pub mod ReasonCalls
+pub mod SheetCalls

@@ -1,0 +1,2 @@
+pub mod TickSteps
+pub mod Ticks

@@ -1,0 +1,188 @@
+-- What the number reader and the line reader know of the bytes passed: digits before a place and no digit at it, and that
+-- digits with a byte up to 10 behind them are one number only.
+use mathlib.Core.List.{List, append-assoc, [], _∷_, _++_}
+use mathlib.Core.Path.{refl, ap, _≡_, sym, _∙_}
+use Prim.Native.Nat.{ℕ, zero, suc, _+_, _-_, _*_, _^_, _≤_, _<_}
+use native.Mathlib.Nat.{not-suc-le-zero, le-of-suc-le-suc, pow-le-pow-right, pow-suc}
+use native.Mathlib.Decide.{decLe}
+use native.Mathlib.Numerals.{add-one}
+use native.Mathlib.Omega.{arith}
+use lib.ListN.{length, getD, drop, length-append}
+use lib.Seq.{drop-cons}
+use borrow.Author.Tests.{le-leb, lt-leb}
+use Rattle.register.specs.Texts.{decimal}
+use Rattle.register.specs.Number.{IsNumber, numberBytes}
+use Rattle.register_number.specs.NumberReading.{byteAt, digitOf, NumberAt}
+use Rattle.register_number.specs.declared.NumberRead.the-variants.{Value, NoNumber}
+use Rattle.register.proofs.Number.{Digits, decimal-leads, decimal-digits, Leads, decimal-one, decimal-more, decimal-injective}
+use Rattle.register.proofs.Number.{digits-append, decimal-eight}
+
+-- inside a list the default does not matter
+pub inside : (s : List ℕ) (i a b : ℕ) → i < length s → getD s i a ≡ getD s i b
+inside [] i a b h = absurd (not-suc-le-zero h)
+inside (x ∷ xs) zero a b h = refl
+inside (x ∷ xs) (suc i) a b h = inside xs i a b (le-of-suc-le-suc h)
+
+-- what is a byte stands inside
+pub byte-inside : (s : List ℕ) (i b : ℕ) → byteAt s i ≡ b → b < 256 → i < length s
+byte-inside [] i b h l = absurd (omega arith)
+byte-inside (x ∷ xs) zero b h l = omega arith
+byte-inside (x ∷ xs) (suc i) b h l = let r : i < length xs = byte-inside xs i b h l in omega arith
+
+-- the byte at a place is what the rest begins with
+pub byte-first : (s : List ℕ) (i b : ℕ) → byteAt s i ≡ b → b < 256 → drop i s ≡ b ∷ drop (i + 1) s
+byte-first s i b h l =
+    let k : i < length s = byte-inside s i b h l in
+    rw add-one (drop-cons s i 0 k ∙ ap (λ x. x ∷ drop (suc i) s) (inside s i 0 256 k ∙ h))
+
+pub first-byte : (s : List ℕ) (i b : ℕ) (r : List ℕ) → drop i s ≡ b ∷ r → byteAt s i ≡ b
+first-byte [] zero b r e = let z : _≡_ {A = ℕ} 0 1 = cc in absurd (omega arith)
+first-byte [] (suc i) b r e = let z : _≡_ {A = ℕ} 0 1 = cc in absurd (omega arith)
+first-byte (x ∷ xs) zero b r e = cc
+first-byte (x ∷ xs) (suc i) b r e = first-byte xs i b r e
+
+pub second-bytes : (s : List ℕ) (i b : ℕ) (r : List ℕ) → drop i s ≡ b ∷ r → drop (i + 1) s ≡ r
+second-bytes [] zero b r e = let z : _≡_ {A = ℕ} 0 1 = cc in absurd (omega arith)
+second-bytes [] (suc i) b r e = let z : _≡_ {A = ℕ} 0 1 = cc in absurd (omega arith)
+second-bytes (x ∷ xs) zero b r e = cc
+second-bytes (x ∷ xs) (suc i) b r e = rw add-one (rw add-one at (second-bytes xs i b r e))
+
+digit-value : (b : ℕ) → digitOf b < 10 → b ≡ 48 + digitOf b
+digit-value b h = go (decLe 48 b) (decLe b 57)
+  where
+    go : Dec (48 ≤ b) → Dec (b ≤ 57) → b ≡ 48 + digitOf b
+    go (yes l) (yes m) = simp (le-leb 48 b l, le-leb b 57 m) (omega arith)
+    go (yes l) (no m) = let e : digitOf b ≡ 10 = simp (le-leb 48 b l, lt-leb b 57 (omega arith)) in absurd (omega arith)
+    go (no l) m = let e : digitOf b ≡ 10 = simp (lt-leb 48 b (omega arith)) in absurd (omega arith)
+
+no-value : (b : ℕ) → 48 ≤ b → b ≤ 57 → digitOf b < 10
+no-value b l m = simp (le-leb 48 b l, le-leb b 57 m) (omega arith)
+
+-- bytes that begin with no digit
+abbrev NoDigit : List ℕ → Type 0
+NoDigit u = (b : ℕ) (r : List ℕ) → u ≡ b ∷ r → 48 ≤ b → b ≤ 57 → ⊥
+
+module _ (s : List ℕ) (i d : ℕ) (here : d ≡ digitOf (byteAt s i)) where
+  digit-byte : d < 10 → byteAt s i ≡ 48 + d
+  digit-byte h = digit-value (byteAt s i) (omega arith) ∙ ap (λ k. 48 + k) (sym here)
+
+  digit-first : d < 10 → drop i s ≡ (48 + d) ∷ drop (i + 1) s
+  digit-first h = byte-first s i (48 + d) (digit-byte h) (omega arith)
+
+  pub digit-inside : d < 10 → i < length s
+  digit-inside h = byte-inside s i (48 + d) (digit-byte h) (omega arith)
+
+  no-digit : 9 < d → NoDigit (drop i s)
+  no-digit h b r e l m =
+      let q : digitOf b < 10 = no-value b l m in
+      omega (arith, here, ap digitOf (first-byte s i b r e))
+
+-- digits that no digit follows are the digits that a byte up to 10 follows
+digits-same : (p q u : List ℕ) (c : ℕ) (r : List ℕ) → Digits p → Digits q → NoDigit u → c ≤ 10 → p ++ u ≡ q ++ (c ∷ r) → p ≡ q
+digits-same [] [] u c r a b n h e = refl
+digits-same [] (y ∷ q) u c r a b n h e = absurd (n y (q ++ (c ∷ r)) e (b .0) (b .1))
+digits-same (x ∷ p) [] u c r a b n h e = let z : x ≡ c = cc in absurd (omega (arith, a .0))
+digits-same (x ∷ p) (y ∷ q) u c r a b n h e =
+    let z : x ≡ y = cc in
+    let t : p ++ u ≡ q ++ (c ∷ r) = cc in
+    let f : p ≡ q = digits-same p q u c r (a .2) (b .2) n h t in
+    cc
+
+digits-fewer : (p q u : List ℕ) (c : ℕ) (r : List ℕ) → Digits p → c ≤ 10 → p ++ u ≡ q ++ (c ∷ r) → length p ≤ length q
+digits-fewer [] q u c r a h e = omega arith
+digits-fewer (x ∷ p) [] u c r a h e = let z : x ≡ c = cc in absurd (omega (arith, a .0))
+digits-fewer (x ∷ p) (y ∷ q) u c r a h e =
+    let t : p ++ u ≡ q ++ (c ∷ r) = cc in
+    let f : length p ≤ length q = digits-fewer p q u c r (a .2) h t in
+    omega arith
+
+-- a number's first byte
+lead : (n c : ℕ) (r u : List ℕ) → IsNumber n → u ≡ numberBytes n ++ (c ∷ r) → (b : ℕ) × (t : List ℕ) × (u ≡ b ∷ t) × (48 < b)
+    × (b ≤ 57)
+lead n c r u h e = go (decimal n) refl (decimal-leads n (omega arith)) (decimal-digits n (omega arith))
+  where
+    go : (ds : List ℕ) → decimal n ≡ ds → Leads n ds → Digits ds → (b : ℕ) × (t : List ℕ) × (u ≡ b ∷ t) × (48 < b) × (b ≤ 57)
+    go [] q l d = absurd l
+    go (b ∷ bs) q l d = (b, bs ++ (c ∷ r), e ∙ ap (λ ds. ds ++ (c ∷ r)) q, l (h .0), d .1)
+
+-- The loop: the digits from `at` to i are those of the value.
+pub record Inv (s : List ℕ) (at value i : ℕ) : Type 0 where
+  pub from : at < i
+  pub few : i ≤ at + 8
+  pub within : i ≤ length s
+  pub above : 0 < value
+  pub small : value < 10 ^ (i - at)
+  pub count : length (decimal value) ≡ i - at
+  pub spells : drop at s ≡ decimal value ++ drop i s
+
+pub begin : (s : List ℕ) (at d : ℕ) → d ≡ digitOf (byteAt s at) → (d ≡ 0 → ⊥) → d ≤ 9 → Inv s at d (at + 1)
+begin s at d here z l =
+    let n : at + 1 - at ≡ 1 = omega arith in
+    let k : at < length s = digit-inside s at d here (omega arith) in
+    record {
+      from = omega arith;
+      few = omega arith;
+      within = omega arith;
+      above = omega arith;
+      small = rw n (omega arith);
+      count = rw (n, decimal-one d (omega arith)) refl;
+      spells = rw (decimal-one d (omega arith)) (digit-first s at d here (omega arith));
+    }
+
+module _ (s : List ℕ) (at value i : ℕ) (v : Inv s at value i) where
+  pub below-power : value < 100000000
+  below-power = omega (arith, v .small, pow-le-pow-right {n = 10} (omega arith) (let h : i - at ≤ 8 = omega (arith, v .few) in h))
+
+  pub below-eight : i - at < 8 → value < 10000000
+  below-eight h = omega (arith, v .small, pow-le-pow-right {n = 10} (omega arith) (let k : i - at ≤ 7 = omega arith in k))
+
+  number : IsNumber value
+  number = (v .above, below-power)
+
+  pub turn : (d : ℕ) → d ≡ digitOf (byteAt s i) → d ≤ 9 → i - at < 8 → Inv s at (value * 10 + d) (i + 1)
+  turn d here l h =
+      let n : i + 1 - at ≡ suc (i - at) = omega (arith, v .from) in
+      let m : value < 10000000 = below-eight h in
+      let q : decimal (value * 10 + d) ≡ decimal value ++ ((48 + d) ∷ []) = decimal-more value d (v .above) (omega arith)
+      (omega arith) in
+      let k : i < length s = digit-inside s i d here (omega arith) in
+      record {
+        from = omega (arith, v .from);
+        few = omega (arith, v .from);
+        within = omega arith;
+        above = omega (arith, v .above);
+        small = rw (n, pow-suc) (omega (arith, v .small));
+        count = rw (n, q) (length-append (decimal value) ((48 + d) ∷ []) ∙ omega (arith, v .count));
+        spells =
+            v .spells ∙ ap (λ u. decimal value ++ u) (digit-first s i d here (omega arith))
+            ∙ sym (rw q (append-assoc (decimal value) ((48 + d) ∷ []) (drop (i + 1) s)));
+      }
+
+  pub whole : (d : ℕ) → d ≡ digitOf (byteAt s i) → 9 < d → NumberAt s at (Value value i)
+  whole d here l = (number, v .from, v .within, v .spells, only)
+    where
+      only : (n c : ℕ) (rest : List ℕ) → IsNumber n → c ≤ 10 → drop at s ≡ numberBytes n ++ (c ∷ rest) → n ≡ value
+      only n c rest h k e =
+          let p : decimal value ≡ decimal n = digits-same (decimal value) (decimal n) (drop i s) c rest
+          (decimal-digits value (omega (arith, below-power))) (decimal-digits n (omega arith)) (no-digit s i d here l) k
+          (sym (v .spells) ∙ e) in
+          sym (decimal-injective value n (omega (arith, below-power)) (omega arith) p)
+
+  pub nine-digits : (d : ℕ) → d ≡ digitOf (byteAt s i) → d < 10 → 8 ≤ i - at → NumberAt s at NoNumber
+  nine-digits d here l h n c rest j k e =
+      let p : List ℕ = decimal value ++ ((48 + d) ∷ []) in
+      let f : length p ≤ length (decimal n) = digits-fewer p (decimal n) (drop (i + 1) s) c rest
+      (digits-append (decimal value) ((48 + d) ∷ []) (decimal-digits value (omega (arith, below-power)))
+      (omega arith, omega arith, tt)) k (append-assoc (decimal value) ((48 + d) ∷ []) (drop (i + 1) s)
+      ∙ sym (ap (λ u. decimal value ++ u) (digit-first s i d here l)) ∙ sym (v .spells) ∙ e) in
+      omega (arith, f, decimal-eight n (j .1), v .count, length-append (decimal value) ((48 + d) ∷ []))
+
+pub zero-first : (s : List ℕ) (at d : ℕ) → d ≡ digitOf (byteAt s at) → d ≡ 0 → NumberAt s at NoNumber
+zero-first s at d here z n c rest j k e =
+    let (b, t, q, l, m) = lead n c rest (drop at s) j e in
+    omega (arith, digit-byte s at d here (omega arith), first-byte s at b t q)
+
+pub none-first : (s : List ℕ) (at d : ℕ) → d ≡ digitOf (byteAt s at) → 9 < d → NumberAt s at NoNumber
+none-first s at d here h n c rest j k e =
+    let (b, t, q, l, m) = lead n c rest (drop at s) j e in
+    no-digit s at d here h b t q (omega arith) m

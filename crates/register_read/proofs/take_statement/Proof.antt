@@ -1,0 +1,97 @@
+-- `take_statement` tests 4, 6, 5 in this order, and then keeps the statement.
+use mathlib.Core.Logic.{inl, inr}
+use mathlib.Core.Path.{refl}
+use native.Mathlib.Omega.{arith}
+use borrow.Author.Needs.{needs}
+use Rattle.register_read.proofs.take_statement.Statement.{statement}
+use Rattle.register_read.proofs.take_statement.Tie as tie
+
+returns : tie.Need-returns
+returns c = (inl (c .if1 .taken, refl), c .before .before .before .before .pre .1)
+
+returns-2 : tie.Need-returns-2
+returns-2 c =
+    let pre = c .before .before .before .before .before .pre in
+    (inr (inl (omega arith, c .if2 .taken, refl)), pre .1)
+
+look-up-requires : tie.Need-look-up-requires
+look-up-requires c κs = c .before .before .before .before .before .before .before .pre .1
+
+same-length : tie.Need-same-length
+same-length c = search needs
+
+same-length-2 : tie.Need-same-length-2
+same-length-2 c = search needs
+
+returns-3 : tie.Need-returns-3
+returns-3 c =
+    let pre = c .before .before .before .before .before .before .before .before .before .pre in (
+      inr (inr (
+        omega arith,
+        omega arith,
+        (
+          c .before .look-up .result,
+          (c .if3 .taken, c .before .look-up .ensures .2 (c .if3 .taken)),
+        ),
+        refl,
+      )),
+      pre .1,
+    )
+
+enter-requires : tie.Need-enter-requires
+enter-requires c κs =
+    let pre = c .before .before .before .before .before .before .before .before .before .before .before .pre in (
+      pre .1,
+      record {
+        fits = omega arith;
+        room = omega arith;
+        absent = λ i l. c .before .before .before .look-up .ensures .1 i (omega arith);
+      },
+    )
+
+mark-number-requires : tie.Need-mark-number-requires
+mark-number-requires c κs = search needs
+
+slice-write-marks : tie.Need-slice-write-marks
+slice-write-marks c = search needs
+
+same-length-3 : tie.Need-same-length-3
+same-length-3 c = search needs
+
+same-length-4 : tie.Need-same-length-4
+same-length-4 c = search needs
+
+same-length-5 : tie.Need-same-length-5
+same-length-5 c = search needs
+
+returns-4 : tie.Need-returns-4
+returns-4 c =
+    let look-up = c .before .before .before .before .before .before .before .before .before .look-up in
+    let enter = c .before .before .before .before .before .enter in (
+      (
+        omega arith,
+        omega arith,
+        (λ i l. look-up .ensures .1 i (omega arith)),
+        enter .ensures .0,
+        rw (c .mark-number .ensures) refl,
+      ),
+      enter .ensures .1,
+    )
+
+pub take-statement-spec : {M : Type 1} → statement M
+take-statement-spec =
+    tie.close
+    (tie.spec
+    returns
+    returns-2
+    look-up-requires
+    same-length
+    same-length-2
+    returns-3
+    enter-requires
+    mark-number-requires
+    slice-write-marks
+    same-length-3
+    same-length-4
+    same-length-5
+    returns-4)

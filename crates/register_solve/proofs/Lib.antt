@@ -1,0 +1,2 @@
+pub mod AskedPlace
+pub mod SolvedRooms

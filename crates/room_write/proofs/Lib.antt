@@ -1,0 +1,3 @@
+pub mod RowByRow
+pub mod TwoDigits
+pub mod Writing

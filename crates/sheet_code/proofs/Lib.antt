@@ -1,0 +1,4 @@
+pub mod CodeSet
+pub mod SheetLaws
+pub mod SheetSteps
+pub mod Totals

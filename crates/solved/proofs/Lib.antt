@@ -1,4 +1,0 @@
-pub mod Laws
-pub mod Rooms
-pub mod Asked
-pub mod Lists

@@ -1,3 +1,0 @@
-pub mod Input
-pub mod Pieces
-pub mod Put

@@ -1,14 +1,14 @@
-// Objections and their links in two rooms of words: what each word holds, read and stored part by part. Which entries are looked for
-// along the links is left to the caller. No room is added for the links: the rooms of the two lists, 4,096 + 3,072 words of 32 bits,
-// hold both, and so calls on lists keep within 32 KiB of stack.
+// Objections and their links in two rooms of words: what each word holds, read and stored part by part. Which entries are looked
+// for along the links is left to the caller. No room is added for the links: the rooms of the two lists, 4,096 + 3,072 words of
+// 32 bits, hold both, and so calls on lists keep within 32 KiB of stack.
 //
 //   first room    word e            objector + 1,024 · target + 1,048,576 · link of e among those against its target
 //   second room   word e            low part, below 4,096: link of e among those by its objector, for e below 3,072
 //                 word e - 3,072    high part: that link for e from 3,072 on
 //                 word 1,024 + 2x   high part: where the chain against x begins; in word 1,025 + 2y: where that by y begins
 //
-// A link is the latest earlier entry, counted from 1, and 0 is none. Beginnings stand in turn, since words 4,096 bytes apart that are
-// read just after one of them was stored to can make a processor wait.
+// A link is the latest earlier entry, counted from 1, and 0 is none. Beginnings stand in turn, since words 4,096 bytes apart that
+// are read just after one of them was stored to can make a processor wait.
 use pair_chain::place;
 ghost use mathlib.Core.Path.{_≡_};
 ghost use Prim.Native.Nat.{_<_, _/_, _≤_};

@@ -3,7 +3,8 @@ use mathlib.Core.Path.{sym, subst₂, _∙_}
 use native.Mathlib.Omega.{arith}
 use Rattle.pair_words.specs.Linked.{objectorsIn, targetsIn}
 use Rattle.pair_repeat.specs.Entered.{BothSearched}
-use Rattle.pair_repeat.proofs.PairSearch.{walks-begin, walks-more, by-over, against-over, by-found, against-found, by-falls}
+use Rattle.pair_repeat.proofs.PairSearch.{walks-begin, walks-more, by-over, against-over}
+use Rattle.pair_repeat.proofs.PairSearch.{by-found, against-found, by-falls}
 use borrow.Author.Needs.{needs}
 use Rattle.pair_repeat.proofs.pair_at.Statement.{statement}
 use Rattle.pair_repeat.proofs.pair_at.Tie as tie

@@ -16,6 +16,19 @@ abbrev pub Promised : {Rooms : Type 0} → (refuses : Refusal → Type 0) → (g
 Promised refuses gives rooms (Refused r) after = refuses r × (after ≡ rooms)
 Promised refuses gives rooms (Given n) after = gives n after
 
+-- What every call on an input promises. The input is accepted as what it makes (a text as a register), or it is refused, and those
+-- refusals come first. Of what it makes, `later` says what is refused then, and `gives` what the answer is.
+abbrev pub RefusedOn : {Made : Type 0} → (accepts : Made → Type 0) → (refuses : Refusal → Type 0)
+    → (later : Made → Refusal → Type 0) → Refusal → Type 0
+RefusedOn {Made} accepts refuses later r = refuses r ⊎ ((m : Made) × accepts m × later m r)
+
+abbrev pub GivenOn : {Made Rooms : Type 0} → (accepts : Made → Type 0) → (gives : Made → ℕ → Rooms → Type 0) → ℕ → Rooms → Type 0
+GivenOn {Made} accepts gives n after = (m : Made) × accepts m × gives m n after
+
+abbrev pub OnInput : {Made Rooms : Type 0} → (accepts : Made → Type 0) → (refuses : Refusal → Type 0)
+    → (later : Made → Refusal → Type 0) → (gives : Made → ℕ → Rooms → Type 0) → Rooms → Answer → Rooms → Type 0
+OnInput accepts refuses later gives = Promised (RefusedOn accepts refuses later) (GivenOn accepts gives)
+
 -- "An accepted call writes only the answer; room beyond it stays as found." The room begins with n entries, each of which
 -- is as it should be.
 pub record Begins (n : ℕ) (entry : ℕ → ℕ → Type 0) (room after : List ℕ) : Type 0 where

@@ -1,38 +1,16 @@
--- 01's refusal numbers, with the words of its table, and the places. "For a text the place is the line, from 1; for lists,
--- the entry, from 0."
+-- The refusal numbers of 01 and of later requests, and the places. Those of a text and of lists are said with what they are refused
+-- for; the rows here are of what is refused once they are accepted, with the words of the table.
 use Prim.Native.Nat.{ℕ}
+use Rattle.register.specs.TextFaults.{textFaultNumber, textFaultPlace}
+use Rattle.lists.specs.ListsFaults.{listsFaultNumber, listsFaultPlace}
 use Rattle.answer.specs.declared.Refusal.{Refusal}
-use Rattle.answer.specs.declared.Refusal.the-variants.{TooLong, Unended, Spoiled, Late, Issued, Statements, Unknown}
-use Rattle.answer.specs.declared.Refusal.the-variants.{Repeated, Objections, Room, Unequal, Mark, Place, Asked, Turns}
-use Rattle.answer.specs.declared.Refusal.the-variants.{Sheet}
+use Rattle.answer.specs.declared.Refusal.the-variants.{Text, Lists, Room, Asked, Turns, Sheet}
 
 abbrev pub refusalNumber : Refusal → ℕ
--- text over 65,535 bytes
-refusalNumber TooLong = 1
--- text not empty and its last byte not 10
-refusalNumber Unended = 2
--- spoiled line
-refusalNumber (Spoiled k) = 3
--- statement line after an objection line
-refusalNumber (Late k) = 4
--- statement number already issued
-refusalNumber (Issued k) = 5
--- the 1,025th statement (its line), or over 1,024 marks (0)
-refusalNumber (Statements k) = 6
--- objector or target not on the register
-refusalNumber (Unknown k) = 7
--- same objector and target as earlier (line or entry)
-refusalNumber (Repeated k) = 8
--- the 4,097th objection (its line), or over 4,096 pairs (0)
-refusalNumber (Objections k) = 9
+refusalNumber (Text fault) = textFaultNumber fault
+refusalNumber (Lists fault) = listsFaultNumber fault
 -- lent room shorter than the answer
 refusalNumber Room = 10
--- objector and target lists unequal in length
-refusalNumber Unequal = 11
--- mark other than 0 or 1
-refusalNumber (Mark k) = 12
--- a place outside the mark list
-refusalNumber (Place k) = 13
 -- asked statement not on the register
 refusalNumber Asked = 14
 -- more than 6 turns asked
@@ -41,19 +19,9 @@ refusalNumber Turns = 15
 refusalNumber Sheet = 16
 
 abbrev pub refusalPlace : Refusal → ℕ
-refusalPlace TooLong = 0
-refusalPlace Unended = 0
-refusalPlace (Spoiled k) = k
-refusalPlace (Late k) = k
-refusalPlace (Issued k) = k
-refusalPlace (Statements k) = k
-refusalPlace (Unknown k) = k
-refusalPlace (Repeated k) = k
-refusalPlace (Objections k) = k
+refusalPlace (Text fault) = textFaultPlace fault
+refusalPlace (Lists fault) = listsFaultPlace fault
 refusalPlace Room = 0
-refusalPlace Unequal = 0
-refusalPlace (Mark k) = k
-refusalPlace (Place k) = k
 refusalPlace Asked = 0
 refusalPlace Turns = 0
 refusalPlace Sheet = 0

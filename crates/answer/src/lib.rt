@@ -1,6 +1,9 @@
 // What a public call answers, with the refusals of the product, and the same as C gets it. No function stands here: specs/ says
-// what every promise has in common, and which number and place 01's table and later requests give each refusal. When one is
-// given, and what a call gives, is said by the call's own promise.
+// what every promise has in common, and which number and place 01's table and later requests give each refusal. Refusals of a
+// text and of lists are those of `register` and `lists`; what is refused later is a case here, so that a new number touches
+// neither. When one is given, and what a call gives, is said by the call's own promise.
+use lists::ListsFault;
+use register::TextFault;
 
 // `Given` holds how many entries or bytes were written, or the answer itself.
 pub enum Answer {
@@ -15,21 +18,11 @@ pub struct CAnswer {
     pub value: u32,
 }
 
-// A case holds its place where that is a line or an entry. Places not held are 0.
+// What a text or lists are refused for; or what is refused of them once they are accepted, with the place 0.
 pub enum Refusal {
-    TooLong,
-    Unended,
-    Spoiled(u32),
-    Late(u32),
-    Issued(u32),
-    Statements(u32),
-    Unknown(u32),
-    Repeated(u32),
-    Objections(u32),
+    Text(TextFault),
+    Lists(ListsFault),
     Room,
-    Unequal,
-    Mark(u32),
-    Place(u32),
     Asked,
     Turns,
     Sheet,

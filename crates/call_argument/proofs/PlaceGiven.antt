@@ -35,21 +35,16 @@ module _ (marks objectors targets : List ℕ) (l : Lists marks objectors targets
 
       pub line-short : length after < n → PairsArgument marks objectors targets place room (Refused Room) after
       line-short g = (
-        inr (l, inr (inr (omega arith, omega arith, ((p .line, rw e at (p .is-line), omega (arith, p .counts)), refl)))),
+        inr (tt, l, inr (inr (omega arith, omega arith, ((p .line, rw e at (p .is-line), omega (arith, p .counts)), refl)))),
         p .short (omega (arith, p .counts)),
       )
 
       pub line-given : n ≤ length after → PairsArgument marks objectors targets place room (Given n) after
       line-given g = (
+        tt,
         l,
-        omega arith,
         (
-          p .line,
-          rw e at (p .is-line),
-          (
-            p .counts,
-            omega (arith, p .counts),
-            p .fits (omega (arith, p .counts)),
-          ),
+          omega arith,
+          (p .line, rw e at (p .is-line), (p .counts, omega (arith, p .counts), p .fits (omega (arith, p .counts)))),
         ),
       )

@@ -30,8 +30,8 @@ pub fn pairs_line(
         (now (line .exit)) ⌝ }
 {
     let checked = lists_check::check(marks, objectors, targets);
-    if let Checked::Refused(refusal) = checked {
-        return Answer::Refused(refusal);
+    if let Checked::Refused(fault) = checked {
+        return Answer::Refused(Refusal::Lists(fault));
     }
     let x = pair_chain::place(place);
     if x >= marks.len() {
@@ -144,7 +144,7 @@ pub fn text_line(text: &[u8], number: u32, line: &mut [u32]) -> Answer
         &mut lengths,
     );
     match reading {
-        Reading::Refused(refusal) => Answer::Refused(refusal),
+        Reading::Refused(fault) => Answer::Refused(Refusal::Text(fault)),
         Reading::Whole(n, m) => argument_rooms(
             &numbers,
             &marks,

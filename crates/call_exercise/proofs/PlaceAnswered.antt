@@ -11,17 +11,16 @@ use Rattle.lists.specs.Refuses.{Lists}
 use Rattle.answer.specs.declared.Refusal.the-variants.{Turns}
 use Rattle.answer.specs.Answer.{Asks}
 use Rattle.answer.specs.declared.Answer.the-variants.{Given}
-use Rattle.promises.specs.OnLists.{ListsRefuse}
 use Rattle.promises.specs.ExerciseCalls.{PairsExercise}
 
 module _ (marks objectors targets : List ℕ) (l : Lists marks objectors targets) where
   -- the code works with the place as an index; it is the place asked for
   module _ (x place : ℕ) (e : x ≡ place) (h : x < length marks) where
     pub too-many : (turns within : ℕ) (short : Type 0) → within ≡ turns → 6 < within
-        → ListsRefuse marks objectors targets (Asks (place < length marks) turns short) Turns
-    too-many turns within short f g = inr (l, inr (inl (omega arith, omega arith, refl)))
+        → Asks (place < length marks) turns short Turns
+    too-many turns within short f g = inr (inl (omega arith, omega arith, refl))
 
     pub exercise-given : (turns within answer : ℕ) → within ≡ turns → within ≤ 6
         → Answered (bookOf marks objectors targets) x within answer
         → PairsExercise marks objectors targets place turns (Given answer)
-    exercise-given turns within answer f g p = (l, omega arith, omega arith, rw (f, e) at p)
+    exercise-given turns within answer f g p = (tt, l, (omega arith, omega arith, rw (f, e) at p))

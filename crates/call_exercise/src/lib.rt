@@ -24,8 +24,8 @@ pub fn pairs_exercise(
     ensures { λ a. ⌜ PairsExercise (now (marks .entry)) (now (objectors .entry)) (now (targets .entry)) place turns a ⌝ }
 {
     let checked = lists_check::check(marks, objectors, targets);
-    if let Checked::Refused(refusal) = checked {
-        return Answer::Refused(refusal);
+    if let Checked::Refused(fault) = checked {
+        return Answer::Refused(Refusal::Lists(fault));
     }
     let x = pair_chain::place(place);
     if x >= marks.len() {
@@ -99,7 +99,7 @@ pub fn text_exercise(text: &[u8], number: u32, turns: u32) -> Answer
     let mut targets = [0u32; 4096];
     let reading = register_read::read(text, &mut numbers, &mut marks, &mut objectors, &mut targets);
     match reading {
-        Reading::Refused(refusal) => Answer::Refused(refusal),
+        Reading::Refused(fault) => Answer::Refused(Refusal::Text(fault)),
         Reading::Whole(n, m) => exercise_rooms(
             &numbers,
             &marks,

@@ -54,8 +54,8 @@ pub fn pairs_kinds(
         (now (kinds .entry), now (lengths .entry)) a (now (kinds .exit), now (lengths .exit)) ⌝ }
 {
     let checked = lists_check::check(marks, objectors, targets);
-    if let Checked::Refused(refusal) = checked {
-        return Answer::Refused(refusal);
+    if let Checked::Refused(fault) = checked {
+        return Answer::Refused(Refusal::Lists(fault));
     }
     let n = objectors.len();
     if kinds.len() < n {

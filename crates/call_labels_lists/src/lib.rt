@@ -12,8 +12,8 @@ pub fn pairs_labels(marks: &[u8], objectors: &[u32], targets: &[u32], labels: &m
         (now (labels .exit)) ⌝ }
 {
     let checked = lists_check::check(marks, objectors, targets);
-    if let Checked::Refused(refusal) = checked {
-        return Answer::Refused(refusal);
+    if let Checked::Refused(fault) = checked {
+        return Answer::Refused(Refusal::Lists(fault));
     }
     let n = marks.len();
     if labels.len() < n {
@@ -35,8 +35,8 @@ pub fn pairs_lengths(
         (now (lengths .exit)) ⌝ }
 {
     let checked = lists_check::check(marks, objectors, targets);
-    if let Checked::Refused(refusal) = checked {
-        return Answer::Refused(refusal);
+    if let Checked::Refused(fault) = checked {
+        return Answer::Refused(Refusal::Lists(fault));
     }
     let n = marks.len();
     if lengths.len() < n {

@@ -53,7 +53,7 @@ pub fn text_labels(text: &[u8], room: &mut [u8]) -> Answer
         &mut lengths,
     );
     match reading {
-        Reading::Refused(refusal) => Answer::Refused(refusal),
+        Reading::Refused(fault) => Answer::Refused(Refusal::Text(fault)),
         Reading::Whole(n, _) => {
             if room.len() < n {
                 return Answer::Refused(Refusal::Room);
@@ -84,7 +84,7 @@ pub fn text_lengths(text: &[u8], room: &mut [u16]) -> Answer
         &mut lengths,
     );
     match reading {
-        Reading::Refused(refusal) => Answer::Refused(refusal),
+        Reading::Refused(fault) => Answer::Refused(Refusal::Text(fault)),
         Reading::Whole(n, _) => {
             if room.len() < n {
                 return Answer::Refused(Refusal::Room);

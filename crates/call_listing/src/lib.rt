@@ -119,7 +119,7 @@ pub fn text_listing(text: &[u8], room: &mut [u8]) -> Answer
         &mut lengths,
     );
     match reading {
-        Reading::Refused(refusal) => Answer::Refused(refusal),
+        Reading::Refused(fault) => Answer::Refused(Refusal::Text(fault)),
         Reading::Whole(n, m) => list_rooms(
             &numbers,
             &marks,

@@ -9,6 +9,8 @@ use lib.ListN.{length, getD, drop, take}
 use Rattle.register.specs.Register.{written}
 use Rattle.register.proofs.Order.{marks-counted, numbers-counted}
 use Rattle.answer.specs.declared.Refusal.the-variants.{Room}
+use Rattle.answer.specs.Answer.{Short}
+use Rattle.answer.proofs.Inputs.{on-promised}
 use Rattle.answer.specs.declared.Answer.{Answer}
 use Rattle.answer.specs.declared.Answer.the-variants.{Refused, Given}
 use Rattle.mend.specs.TextLines.{TextLine}
@@ -23,7 +25,8 @@ use Rattle.mend.specs.Report.{reportOf}
 use Rattle.mend.proofs.Report.{report-small}
 use Rattle.register_write.specs.Copied.{copied, Copyable}
 use Rattle.register_write.proofs.Copied.{copied-written, made-copyable}
-use Rattle.promises.specs.MendCalls.{Lent, TextMend}
+use Rattle.promises.specs.MendCalls.{Lent, TextMend, MendedShort, MendedIn}
+use Rattle.promises.proofs.UniqueMend.{lines-apart}
 use Rattle.call_mend.specs.MendedLists.{MendedLists, MendWritten}
 
 module _ (ls : List TextLine) (nums marks objectors targets fates-list : List ℕ)
@@ -113,5 +116,5 @@ module _ (s : List ℕ) (h : length s ≤ 65535) (r : KeptCounts) (nums marks ob
   }
 
   pub mend-promised : (lent : Lent) (a : Answer) (after : Lent) → MendWritten (q .ls) lent a after → TextMend s lent a after
-  mend-promised lent (Refused r) after ((short, e), same) = (inr ((h, (q .ls, q .lines-of, short)), e), same)
-  mend-promised lent (Given n) after w = (h, (q .ls, q .lines-of, w))
+  mend-promised lent =
+      on-promised (lines-apart s) (λ ls. Short (MendedShort ls lent)) (λ ls. MendedIn ls lent) (q .ls) (h, q .lines-of) lent

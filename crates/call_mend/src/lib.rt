@@ -2,6 +2,7 @@
 // left to `mend_text`, and the writing to `register_write` and `mend_report`.
 use answer::Answer;
 use answer::Refusal;
+use register::TextFault;
 ghost use mathlib.Core.List.{List};
 ghost use Prim.Native.Nat.{ℕ, _≤_};
 ghost use lib.ListN.{length};
@@ -87,7 +88,7 @@ pub fn text_mend(
         (now (room .exit), now (report .exit), now («report_written» .exit)) ⌝ }
 {
     if text.len() > 65535 {
-        return Answer::Refused(Refusal::TooLong);
+        return Answer::Refused(Refusal::Text(TextFault::TooLong));
     }
     let mut numbers = [0u32; 1024];
     let mut marks = [0u8; 1024];

@@ -221,7 +221,7 @@ pub fn text_reason(text: &[u8], number: u32, room: &mut [u8]) -> Answer
         &mut lengths,
     );
     match reading {
-        Reading::Refused(refusal) => Answer::Refused(refusal),
+        Reading::Refused(fault) => Answer::Refused(Refusal::Text(fault)),
         Reading::Whole(n, m) => reason_rooms(
             &numbers,
             &marks,

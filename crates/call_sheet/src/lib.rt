@@ -1,6 +1,7 @@
 // The public calls that keep a label sheet beside a register text: a fresh sheet, and an old one that is updated in place.
 // Reading and labels are left to `register_solve`, and the rooms that are lent to `sheet_write`.
 use answer::Answer;
+use answer::Refusal;
 use register_read::Reading;
 use sheet_write::fresh_rooms;
 use sheet_write::update_rooms;
@@ -38,7 +39,7 @@ pub fn text_sheet(text: &[u8], sheet: &mut [u8], totals: &mut [u32]) -> Answer
     let mut labels = [0u8; 1024];
     let reading = label_text(text, &mut labels);
     match reading {
-        Reading::Refused(refusal) => Answer::Refused(refusal),
+        Reading::Refused(fault) => Answer::Refused(Refusal::Text(fault)),
         Reading::Whole(n, _) => fresh_rooms(&labels, n, sheet, totals),
     }
 }
@@ -51,7 +52,7 @@ pub fn text_sheet_update(text: &[u8], sheet: &mut [u8], totals: &mut [u32]) -> A
     let mut labels = [0u8; 1024];
     let reading = label_text(text, &mut labels);
     match reading {
-        Reading::Refused(refusal) => Answer::Refused(refusal),
+        Reading::Refused(fault) => Answer::Refused(Refusal::Text(fault)),
         Reading::Whole(n, _) => update_rooms(&labels, n, sheet, totals),
     }
 }

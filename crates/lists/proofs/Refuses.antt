@@ -10,9 +10,8 @@ use lib.ListN.{length, getD}
 use Rattle.game.specs.Book.{InOrder}
 use Rattle.game.specs.Find.{First}
 use Rattle.game.proofs.Find.{first-once, first-below}
-use Rattle.answer.specs.declared.Refusal.{Refusal}
-use Rattle.answer.specs.declared.Refusal.the-variants.{Unequal, Statements, Objections, Mark, Place, Repeated, TooLong, Unended}
-use Rattle.answer.specs.declared.Refusal.the-variants.{Spoiled, Late, Issued, Unknown, Room, Asked, Turns, Sheet}
+use Rattle.lists.specs.declared.ListsFault.{ListsFault}
+use Rattle.lists.specs.declared.ListsFault.the-variants.{Unequal, Statements, Objections, Mark, Place, Repeated}
 use Rattle.lists.specs.Refuses.{BadMark, BadPlace, Repeat, Lists, Refuses, Same}
 
 module _ (marks objectors targets : List ℕ) where
@@ -51,23 +50,13 @@ module _ (marks objectors targets : List ℕ) where
       go (inr l) = omega (arith, a .order .target j h)
 
   -- accepted and refused at once: never
-  pub not-both : Lists marks objectors targets → (r : Refusal) → Refuses marks objectors targets r → ⊥
+  pub not-both : Lists marks objectors targets → (r : ListsFault) → Refuses marks objectors targets r → ⊥
   not-both a Unequal p = p (a .order .paired)
-  not-both a (Statements k) p = omega (arith, p .1, a .few-marks)
-  not-both a (Objections k) p = omega (arith, p .2, a .few-pairs)
+  not-both a Statements p = omega (arith, p .1, a .few-marks)
+  not-both a Objections p = omega (arith, p .2, a .few-pairs)
   not-both a (Mark k) p = marked-of a k (p .3 .0)
   not-both a (Place k) p = placed-of a k (p .4 .0)
   not-both a (Repeated k) p = a .distinct k (p .5 .0)
-  not-both a TooLong p = p
-  not-both a Unended p = p
-  not-both a (Spoiled k) p = p
-  not-both a (Late k) p = p
-  not-both a (Issued k) p = p
-  not-both a (Unknown k) p = p
-  not-both a Room p = p
-  not-both a Asked p = p
-  not-both a Turns p = p
-  not-both a Sheet p = p
 
 -- Decisions, so that the refusal can be looked for.
 not? : {A : Type 0} → Dec A → Dec (¬ A)
@@ -85,23 +74,23 @@ either? (no f) (yes b) = yes (inr b)
 either? (no f) (no g) = no (elim [ inl a ↦ f a | inr b ↦ g b ])
 
 -- One row of the table: its refusal where the row applies, else the rest. And a row that reports the first entry at fault.
-row : {A : Type 0} → Dec A → Refusal → Option Refusal → Option Refusal
+row : {A : Type 0} → Dec A → ListsFault → Option ListsFault → Option ListsFault
 row (yes a) r rest = some r
 row (no f) r rest = rest
 
-row-applies : {A : Type 0} (d : Dec A) (r : Refusal) (rest : Option Refusal) → A → row d r rest ≡ some r
+row-applies : {A : Type 0} (d : Dec A) (r : ListsFault) (rest : Option ListsFault) → A → row d r rest ≡ some r
 unfolding row
 row-applies (yes a) r rest p = refl
 row-applies (no f) r rest p = absurd (f p)
 
-row-passes : {A : Type 0} (d : Dec A) (r : Refusal) (rest : Option Refusal) → ¬ A → row d r rest ≡ rest
+row-passes : {A : Type 0} (d : Dec A) (r : ListsFault) (rest : Option ListsFault) → ¬ A → row d r rest ≡ rest
 unfolding row
 row-passes (yes a) r rest n = absurd (n a)
 row-passes (no f) r rest n = refl
 
 module _ (Fault : ℕ → Type 0) (n : ℕ) (bound : (k : ℕ) → Fault k → k < n)
-    (found : ((k : ℕ) × First Fault k) ⊎ ((k : ℕ) → k < n → ¬ Fault k)) (refusal : ℕ → Refusal) (rest : Option Refusal) where
-  entries : Option Refusal
+    (found : ((k : ℕ) × First Fault k) ⊎ ((k : ℕ) → k < n → ¬ Fault k)) (refusal : ℕ → ListsFault) (rest : Option ListsFault) where
+  entries : Option ListsFault
   entries = elim found [ inl p ↦ some (refusal (p .0)) | inr f ↦ rest ]
 
   entries-first : (k : ℕ) → First Fault k → entries ≡ some (refusal k)
@@ -109,7 +98,7 @@ module _ (Fault : ℕ → Type 0) (n : ℕ) (bound : (k : ℕ) → Fault k → k
   entries-first k p = go found
     where
       go : (w : ((k : ℕ) × First Fault k) ⊎ ((k : ℕ) → k < n → ¬ Fault k))
-          → elim w as (λ _. Option Refusal) [ inl p ↦ some (refusal (p .0)) | inr f ↦ rest ] ≡ some (refusal k)
+          → elim w as (λ _. Option ListsFault) [ inl p ↦ some (refusal (p .0)) | inr f ↦ rest ] ≡ some (refusal k)
       go (inl q) = ap (λ j. some (refusal j)) (first-once Fault (q .0) k (q .1) p)
       go (inr f) = absurd (f k (bound k (p .0)) (p .0))
 
@@ -118,7 +107,7 @@ module _ (Fault : ℕ → Type 0) (n : ℕ) (bound : (k : ℕ) → Fault k → k
   entries-pass f = go found
     where
       go : (w : ((k : ℕ) × First Fault k) ⊎ ((k : ℕ) → k < n → ¬ Fault k))
-          → elim w as (λ _. Option Refusal) [ inl p ↦ some (refusal (p .0)) | inr f ↦ rest ] ≡ rest
+          → elim w as (λ _. Option ListsFault) [ inl p ↦ some (refusal (p .0)) | inr f ↦ rest ] ≡ rest
       go (inl q) = absurd (f (q .0) (q .1 .0))
       go (inr g) = refl
 
@@ -156,22 +145,22 @@ module _ (marks objectors targets : List ℕ) where
   repeats-found = first-below (Repeat objectors targets) repeat? (length objectors)
 
   -- the rows from the last to the first
-  by-repeat : Option Refusal
+  by-repeat : Option ListsFault
   by-repeat = entries (Repeat objectors targets) (length objectors) (λ k p. p .0) repeats-found Repeated none
 
-  by-place : Option Refusal
+  by-place : Option ListsFault
   by-place = entries (BadPlace marks objectors targets) (length objectors) (λ k p. p .0) places-found Place by-repeat
 
-  by-mark : Option Refusal
+  by-mark : Option ListsFault
   by-mark = entries (BadMark marks) (length marks) (λ k p. p .0) marks-found Mark by-place
 
-  by-pairs : Option Refusal
-  by-pairs = row (decLt 4096 (length objectors)) (Objections 0) by-mark
+  by-pairs : Option ListsFault
+  by-pairs = row (decLt 4096 (length objectors)) Objections by-mark
 
-  by-marks : Option Refusal
-  by-marks = row (decLt 1024 (length marks)) (Statements 0) by-pairs
+  by-marks : Option ListsFault
+  by-marks = row (decLt 1024 (length marks)) Statements by-pairs
 
-  refusal : Option Refusal
+  refusal : Option ListsFault
   refusal = row (not? (ℕ-discrete (length targets) (length objectors))) Unequal by-marks
 
   past-unequal : length targets ≡ length objectors → refusal ≡ by-marks
@@ -180,11 +169,11 @@ module _ (marks objectors targets : List ℕ) where
 
   past-marks : length targets ≡ length objectors → length marks ≤ 1024 → refusal ≡ by-pairs
   unfolding by-marks
-  past-marks e m = past-unequal e ∙ row-passes (decLt 1024 (length marks)) (Statements 0) by-pairs (λ h. omega arith)
+  past-marks e m = past-unequal e ∙ row-passes (decLt 1024 (length marks)) Statements by-pairs (λ h. omega arith)
 
   past-pairs : length targets ≡ length objectors → length marks ≤ 1024 → length objectors ≤ 4096 → refusal ≡ by-mark
   unfolding by-pairs
-  past-pairs e m n = past-marks e m ∙ row-passes (decLt 4096 (length objectors)) (Objections 0) by-mark (λ h. omega arith)
+  past-pairs e m n = past-marks e m ∙ row-passes (decLt 4096 (length objectors)) Objections by-mark (λ h. omega arith)
 
   past-mark : length targets ≡ length objectors → length marks ≤ 1024 → length objectors ≤ 4096 → ((j : ℕ) → ¬ BadMark marks j)
       → refusal ≡ by-place
@@ -199,14 +188,11 @@ module _ (marks objectors targets : List ℕ) where
       by-repeat g
 
   -- whatever refusal the lists get, it is this one
-  refuses-is : (r : Refusal) → Refuses marks objectors targets r → refusal ≡ some r
+  refuses-is : (r : ListsFault) → Refuses marks objectors targets r → refusal ≡ some r
   unfolding refusal by-marks by-pairs by-mark by-place by-repeat
   refuses-is Unequal p = row-applies (not? (ℕ-discrete (length targets) (length objectors))) Unequal by-marks p
-  refuses-is (Statements k) (e, h, z) =
-      past-unequal e ∙ row-applies (decLt 1024 (length marks)) (Statements 0) by-pairs h ∙ ap (λ j. some (Statements j)) (sym z)
-  refuses-is (Objections k) (e, m, h, z) =
-      past-marks e m ∙ row-applies (decLt 4096 (length objectors)) (Objections 0) by-mark h
-      ∙ ap (λ j. some (Objections j)) (sym z)
+  refuses-is Statements (e, h) = past-unequal e ∙ row-applies (decLt 1024 (length marks)) Statements by-pairs h
+  refuses-is Objections (e, m, h) = past-marks e m ∙ row-applies (decLt 4096 (length objectors)) Objections by-mark h
   refuses-is (Mark k) (e, m, n, p) =
       past-pairs e m n ∙ entries-first (BadMark marks) (length marks) (λ k p. p .0) marks-found Mark by-place k p
   refuses-is (Place k) (e, m, n, f, p) =
@@ -215,26 +201,16 @@ module _ (marks objectors targets : List ℕ) where
   refuses-is (Repeated k) (e, m, n, f, g, p) =
       past-place e m n f g ∙ entries-first (Repeat objectors targets) (length objectors) (λ k p. p .0) repeats-found Repeated none
       k p
-  refuses-is TooLong p = absurd p
-  refuses-is Unended p = absurd p
-  refuses-is (Spoiled k) p = absurd p
-  refuses-is (Late k) p = absurd p
-  refuses-is (Issued k) p = absurd p
-  refuses-is (Unknown k) p = absurd p
-  refuses-is Room p = absurd p
-  refuses-is Asked p = absurd p
-  refuses-is Turns p = absurd p
-  refuses-is Sheet p = absurd p
 
-  pub refuses-once : (r r′ : Refusal) → Refuses marks objectors targets r → Refuses marks objectors targets r′ → r ≡ r′
+  pub refuses-once : (r r′ : ListsFault) → Refuses marks objectors targets r → Refuses marks objectors targets r′ → r ≡ r′
   refuses-once r r′ p q = cc (refuses-is r p, refuses-is r′ q)
 
   -- every list is accepted or refused
-  pub settled : Lists marks objectors targets ⊎ ((r : Refusal) × Refuses marks objectors targets r)
+  pub settled : Lists marks objectors targets ⊎ ((r : ListsFault) × Refuses marks objectors targets r)
   settled = equal (ℕ-discrete (length targets) (length objectors))
     where
       Settled : Type 0
-      Settled = Lists marks objectors targets ⊎ ((r : Refusal) × Refuses marks objectors targets r)
+      Settled = Lists marks objectors targets ⊎ ((r : ListsFault) × Refuses marks objectors targets r)
 
       Equal : Type 0
       Equal = length targets ≡ length objectors
@@ -258,21 +234,21 @@ module _ (marks objectors targets : List ℕ) where
 
       pairs : Equal → length marks ≤ 1024 → Dec (length objectors ≤ 4096) → Settled
       pairs e m (yes n) = each-mark e m n marks-found
-      pairs e m (no n) = inr (Objections 0, (e, m, omega arith, refl))
+      pairs e m (no n) = inr (Objections, (e, m, omega arith))
 
       count : Equal → Dec (length marks ≤ 1024) → Settled
       count e (yes m) = pairs e m (decLe (length objectors) 4096)
-      count e (no m) = inr (Statements 0, (e, omega arith, refl))
+      count e (no m) = inr (Statements, (e, omega arith))
 
       equal : Dec Equal → Settled
       equal (yes e) = count e (decLe (length marks) 1024)
       equal (no n) = inr (Unequal, n)
 
   -- accepted exactly where no row applies
-  pub accepted-exactly : Lists marks objectors targets ↔ ((r : Refusal) → ¬ Refuses marks objectors targets r)
+  pub accepted-exactly : Lists marks objectors targets ↔ ((r : ListsFault) → ¬ Refuses marks objectors targets r)
   accepted-exactly = (not-both marks objectors targets, λ f. go f settled)
     where
-      go : ((r : Refusal) → ¬ Refuses marks objectors targets r) → Lists marks objectors targets
-          ⊎ ((r : Refusal) × Refuses marks objectors targets r) → Lists marks objectors targets
+      go : ((r : ListsFault) → ¬ Refuses marks objectors targets r) → Lists marks objectors targets
+          ⊎ ((r : ListsFault) × Refuses marks objectors targets r) → Lists marks objectors targets
       go f (inl a) = a
       go f (inr (r, p)) = absurd (f r p)

@@ -1,2 +1,3 @@
 pub mod Handed
+pub mod ListsFaults
 pub mod Refuses

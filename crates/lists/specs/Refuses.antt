@@ -1,4 +1,4 @@
--- Which handed lists are accepted, and which refusal the others get: 01's "For lists: 11, 6, 9, 12, 13, 8, [..] each over
+-- Which handed lists are accepted, and which fault the others have: 01's "For lists: 11, 6, 9, 12, 13, 8, [..] each over
 -- the whole list with the first entry at fault reported". What each call refuses besides is left to the calls.
 use mathlib.Core.List.{List}
 use mathlib.Core.Logic.{_⊎_}
@@ -7,9 +7,8 @@ use Prim.Native.Nat.{ℕ, _≤_, _<_}
 use lib.ListN.{length, getD}
 use Rattle.game.specs.Book.{InOrder}
 use Rattle.game.specs.Find.{First}
-use Rattle.answer.specs.declared.Refusal.{Refusal}
-use Rattle.answer.specs.declared.Refusal.the-variants.{Unequal, Statements, Objections, Mark, Place, Repeated, TooLong, Unended}
-use Rattle.answer.specs.declared.Refusal.the-variants.{Spoiled, Late, Issued, Unknown, Room, Asked, Turns, Sheet}
+use Rattle.lists.specs.declared.ListsFault.{ListsFault}
+use Rattle.lists.specs.declared.ListsFault.the-variants.{Unequal, Statements, Objections, Mark, Place, Repeated}
 
 -- 12: "mark other than 0 or 1"
 abbrev pub BadMark : (marks : List ℕ) → ℕ → Type 0
@@ -37,11 +36,11 @@ module _ (marks objectors targets : List ℕ) where
     pub order : InOrder marks objectors targets
     pub distinct : (k : ℕ) → ¬ Repeat objectors targets k
 
-  -- The refusal, row by row in 01's order: each row says that no earlier one applies.
-  abbrev pub Refuses : Refusal → Type 0
+  -- The fault, row by row in 01's order: each row says that no earlier one applies.
+  abbrev pub Refuses : ListsFault → Type 0
   Refuses Unequal = ¬ (length targets ≡ length objectors)
-  Refuses (Statements p) = (length targets ≡ length objectors) × (1024 < length marks) × (p ≡ 0)
-  Refuses (Objections p) = (length targets ≡ length objectors) × (length marks ≤ 1024) × (4096 < length objectors) × (p ≡ 0)
+  Refuses Statements = (length targets ≡ length objectors) × (1024 < length marks)
+  Refuses Objections = (length targets ≡ length objectors) × (length marks ≤ 1024) × (4096 < length objectors)
   Refuses (Mark k) =
       (length targets ≡ length objectors) × (length marks ≤ 1024) × (length objectors ≤ 4096) × First (BadMark marks) k
   Refuses (Place k) =
@@ -50,13 +49,3 @@ module _ (marks objectors targets : List ℕ) where
   Refuses (Repeated k) =
       (length targets ≡ length objectors) × (length marks ≤ 1024) × (length objectors ≤ 4096) × ((j : ℕ) → ¬ BadMark marks j)
       × ((j : ℕ) → ¬ BadPlace marks objectors targets j) × First (Repeat objectors targets) k
-  Refuses TooLong = ⊥
-  Refuses Unended = ⊥
-  Refuses (Spoiled k) = ⊥
-  Refuses (Late k) = ⊥
-  Refuses (Issued k) = ⊥
-  Refuses (Unknown k) = ⊥
-  Refuses Room = ⊥
-  Refuses Asked = ⊥
-  Refuses Turns = ⊥
-  Refuses Sheet = ⊥

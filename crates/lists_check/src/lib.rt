@@ -1,6 +1,6 @@
 // Lists handed over by another program, in whatever state they are: accepted, or refused with 01's number and the first
 // entry at fault. Labels, and the room for the answer, are left to others.
-use answer::Refusal;
+use lists::ListsFault;
 use pair_chain::place;
 ghost use mathlib.Core.Path.{_≡_};
 ghost use lib.ListN.{length};
@@ -12,7 +12,7 @@ ghost use Rattle.lists_check.specs.Checks.{Checks};
 
 pub enum Checked {
     Accepted,
-    Refused(Refusal),
+    Refused(ListsFault),
 }
 
 // The first mark other than 0 or 1, or the number of marks.
@@ -92,25 +92,25 @@ pub fn check(marks: &[u8], objectors: &[u32], targets: &[u32]) -> Checked
     ensures { λ r. ⌜ Checks (now (marks .entry)) (now (objectors .entry)) (now (targets .entry)) r ⌝ }
 {
     if objectors.len() != targets.len() {
-        return Checked::Refused(Refusal::Unequal);
+        return Checked::Refused(ListsFault::Unequal);
     }
     if marks.len() > 1024 {
-        return Checked::Refused(Refusal::Statements(0));
+        return Checked::Refused(ListsFault::Statements);
     }
     if objectors.len() > 4096 {
-        return Checked::Refused(Refusal::Objections(0));
+        return Checked::Refused(ListsFault::Objections);
     }
     let mark = bad_mark(marks);
     if mark < marks.len() {
-        return Checked::Refused(Refusal::Mark(mark as u32));
+        return Checked::Refused(ListsFault::Mark(mark as u32));
     }
     let pair = bad_place(marks, objectors, targets);
     if pair < objectors.len() {
-        return Checked::Refused(Refusal::Place(pair as u32));
+        return Checked::Refused(ListsFault::Place(pair as u32));
     }
     let again = repeated(marks, objectors, targets);
     if again < objectors.len() {
-        return Checked::Refused(Refusal::Repeated(again as u32));
+        return Checked::Refused(ListsFault::Repeated(again as u32));
     }
     Checked::Accepted
 }

@@ -7,14 +7,14 @@ use native.Mathlib.Omega.{arith}
 use lib.ListN.{length}
 use Rattle.answer.specs.Refusals.{refusalNumber, refusalPlace}
 use Rattle.answer.specs.declared.Refusal.{Refusal}
-use Rattle.answer.specs.declared.Refusal.the-variants.{TooLong}
 use Rattle.register.specs.Register.{written}
 use Rattle.listing.specs.Rows.{refusedRow}
+use Rattle.answer.specs.Answer.{Short, RefusedOn}
 use Rattle.answer.specs.declared.Answer.the-variants.{Refused as NotGiven, Given}
 use Rattle.mend.specs.Mended.{mended, fates}
 use Rattle.mend.proofs.Valid.{never-longer}
 use Rattle.mend.specs.Report.{reportOf}
-use Rattle.promises.specs.MendCalls.{MendRefused, Lent, TextMend}
+use Rattle.promises.specs.MendCalls.{Lined, LinesRefused, MendedShort, Lent, TextMend}
 use Rattle.mend.proofs.Reported.{report-short}
 use Rattle.program_stream.specs.PutAnswer.{PutOf}
 use Rattle.program_stream.proofs.PutAnswer.{begins}
@@ -28,10 +28,11 @@ Settled text put room report = Inside put room report × Mends text (outcomeIn p
 
 module _ (s room report : List ℕ) (found : ℕ) (long : 65535 ≤ length room) (report-long : 16 * 65535 ≤ length report) where
   -- neither room is ever too short
-  too-long : (r : Refusal) → MendRefused s (room, report, found) r → (65535 < length s) × (r ≡ TooLong)
+  too-long : (r : Refusal) → RefusedOn (Lined s) (LinesRefused s) (λ ls. Short (MendedShort ls (room, report, found))) r
+      → LinesRefused s r
   too-long r (inl p) = p
-  too-long r (inr ((h, (ls, is, inl short)), e)) = absurd (omega (arith, long, short, h, never-longer s ls is))
-  too-long r (inr ((h, (ls, is, inr short)), e)) = absurd (omega (arith, report-long, short, report-short s ls h is))
+  too-long r (inr (ls, (h, is), (inl short, e))) = absurd (omega (arith, long, short, h, never-longer s ls is))
+  too-long r (inr (ls, (h, is), (inr short, e))) = absurd (omega (arith, report-long, short, report-short s ls h is))
 
   pub refused-put : (r : Refusal) (after : Lent) → TextMend s (room, report, found) (NotGiven r) after → (n : ℕ) (put : List ℕ)
       → PutOf (NotGiven r) (after .0) n put → Settled s (Refused n) put (after .1)
@@ -42,7 +43,7 @@ module _ (s room report : List ℕ) (found : ℕ) (long : 65535 ≤ length room)
 
   pub mended-put : (n : ℕ) (after : Lent) → TextMend s (room, report, found) (Given n) after
       → Settled s (Mended n (after .2)) (after .0) (after .1)
-  mended-put n after (h, (ls, is, (w, v))) =
+  mended-put n after (ls, (h, is), (w, v)) =
       let (fits, starts) = begins (written (mended ls)) room n (after .0) w in
       let (report-fits, report-starts) = begins (reportOf (fates ls)) report (after .2) (after .1) v in
       ((fits, report-fits), (h, (ls, is, starts, report-starts)))

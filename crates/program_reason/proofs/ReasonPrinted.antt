@@ -11,7 +11,8 @@ use Rattle.register.specs.Register.{Register, Places, Issued}
 use Rattle.register.specs.Reads.{Accepts}
 use Rattle.listing.specs.Rows.{refusedRow}
 use Rattle.answer.specs.declared.Answer.{Answer}
-use Rattle.promises.specs.OnText.{TextRefuses}
+use Rattle.answer.specs.Answer.{RefusedOn, GivenOn}
+use Rattle.promises.specs.OnText.{TextRefused}
 use Rattle.reason.specs.Reasons.{IsReason}
 use Rattle.promises.specs.ReasonCalls.{ReasonRefused, TextReason, ReasonIn}
 use Rattle.reason.proofs.Reasons.{reason-short}
@@ -19,7 +20,7 @@ use Rattle.program_stream.specs.PutAnswer.{PutOf}
 use Rattle.program_stream.proofs.PutAnswer.{put-shown}
 use Rattle.promises.specs.Programs.{Names, NoneNamed, PrintsRefusal, PrintsReason}
 use Rattle.program_reason.specs.AskedNumber.{AskedBy}
-use Rattle.promises.proofs.Programs.{names-once}
+use Rattle.promises.proofs.Programs.{names-once, fault-printed}
 
 module _ (s argument room : List ℕ) (long : 131072 ≤ length room) (number : ℕ) (asked : AskedBy argument number) where
   -- the number of a statement is not 0, so it is the argument's
@@ -31,9 +32,9 @@ module _ (s argument room : List ℕ) (long : 131072 ≤ length room) (number : 
       ⊎-elim (λ q. missing (subst (Issued R) (names-once argument n number p q) i)) (λ (z, none). none n p) asked
 
   -- a room of 131,072 bytes is never too short, and no turns are asked
-  refused : (r : Refusal) (printed : List ℕ) → TextRefuses s (λ R. ReasonRefused R number room) r → PrintsRefusal r printed
-      → PrintsReason s argument printed
-  refused r printed (inl p) e = inl (r, p, e)
+  refused : (r : Refusal) (printed : List ℕ) → RefusedOn (Accepts s) (TextRefused s) (λ R. ReasonRefused R number room) r
+      → PrintsRefusal r printed → PrintsReason s argument printed
+  refused r printed (inl p) e = inl (fault-printed s printed r p e)
   refused r printed (inr (R, a, inl (missing, is))) e =
       inr (R, a, inr (none-named R missing, e ∙ ap (λ u. refusedRow (refusalNumber u) (refusalPlace u)) is))
   refused r printed (inr (R, a, inr (inl (there, many, is)))) e = absurd (omega (arith, many))
@@ -43,8 +44,8 @@ module _ (s argument room : List ℕ) (long : 131072 ≤ length room) (number : 
   pub prints : (a : Answer) (after : List ℕ) (size : ℕ) (put : List ℕ) → TextReason s number room a after
       → PutOf a after size put → (size ≤ length put) × PrintsReason s argument (take size put)
   prints a after size put p w =
-      let (fits, shown) = put-shown (TextRefuses s (λ R. ReasonRefused R number room))
-      (λ n after. (R : Register) × Accepts s R × ReasonIn R number room n after)
+      let (fits, shown) = put-shown (RefusedOn (Accepts s) (TextRefused s) (λ R. ReasonRefused R number room))
+      (GivenOn (Accepts s) (λ R. ReasonIn R number room))
       (λ l. (R : Register) × Accepts s R × ((x : ℕ) × Places R number x × IsReason R x l)) room
       (λ n after (R, a, (x, h, (l, is, w))). (l, (R, a, (x, h, is)), w)) a after size put p w in (
         fits,

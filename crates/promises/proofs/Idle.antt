@@ -24,9 +24,9 @@ use Rattle.answer.specs.declared.Refusal.{Refusal}
 use Rattle.answer.specs.Answer.{Begins}
 use Rattle.answer.specs.declared.Answer.{Answer}
 use Rattle.answer.specs.declared.Answer.the-variants.{Given, Refused}
-use Rattle.promises.specs.LabelCalls.{TextStatements, Statements, TextLabels, PairsLabels, TextLengths, PairsLengths}
-use Rattle.promises.proofs.UniqueLabelsLists.{unique-pairs-labels, unique-pairs-lengths}
-use Rattle.promises.proofs.UniqueLabelsText.{unique-text-labels, unique-text-lengths}
+use Rattle.promises.specs.LabelCalls.{TextStatements, PairsStatements, TextLabels, PairsLabels, TextLengths, PairsLengths}
+use Rattle.promises.proofs.UniqueLabels.{unique-pairs-labels, unique-pairs-lengths, unique-text-labels}
+use Rattle.promises.proofs.UniqueLabels.{unique-text-lengths}
 use Rattle.register.specs.Reads.{Accepts}
 
 -- a room of as many entries as there are statements, with a number of each one's verdict
@@ -49,26 +49,31 @@ unfolding bookOf
 text-given s R a number room e = (
   R,
   a,
-  refl,
-  told (length (R .statements)) (λ x w. (v : Verdict) × Means (book R) x v × (w ≡ number v))
-      (λ x. number (verdict (book R) x)) room e (λ x h. (
-        verdict (book R) x,
-        verdict-means (book R) x (omega (arith, marks-counted R (a .valid))),
-        refl,
-      )),
+  (
+    refl,
+    told (length (R .statements)) (λ x w. (v : Verdict) × Means (book R) x v × (w ≡ number v))
+        (λ x. number (verdict (book R) x)) room e (λ x h. (
+          verdict (book R) x,
+          verdict-means (book R) x (omega (arith, marks-counted R (a .valid))),
+          refl,
+        )),
+  ),
 )
 
 lists-given : (marks objectors targets : List ℕ) → Lists marks objectors targets → (number : Verdict → ℕ) (room : List ℕ)
-    → length room ≡ length marks → Statements marks objectors targets number room (Given (length marks))
+    → length room ≡ length marks → PairsStatements marks objectors targets number room (Given (length marks))
     (upTo (length marks) (λ x. number (verdict (bookOf marks objectors targets) x)))
 unfolding bookOf
-lists-given marks objectors targets l number room e = (
-  l,
-  refl,
-  told (length marks) (λ x w. (v : Verdict) × Means (bookOf marks objectors targets) x v × (w ≡ number v))
-      (λ x. number (verdict (bookOf marks objectors targets) x)) room e
-      (λ x h. (verdict (bookOf marks objectors targets) x, verdict-means (bookOf marks objectors targets) x h, refl)),
-)
+lists-given marks objectors targets l number room e =
+    let B = bookOf marks objectors targets in (
+      tt,
+      l,
+      (
+        refl,
+        told (length marks) (λ x w. (v : Verdict) × Means B x v × (w ≡ number v)) (λ x. number (verdict B x)) room e
+            (λ x h. (verdict B x, verdict-means B x h, refl)),
+      ),
+    )
 
 -- the two texts
 abbrev pub lone-bytes : List ℕ

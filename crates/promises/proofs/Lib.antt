@@ -10,8 +10,7 @@ pub mod UniqueAskedLists
 pub mod UniqueAskedText
 pub mod UniqueInC
 pub mod UniqueKinds
-pub mod UniqueLabelsLists
-pub mod UniqueLabelsText
+pub mod UniqueLabels
 pub mod UniqueListing
 pub mod UniqueMend
 pub mod UniqueReason

@@ -5,15 +5,17 @@ use mathlib.Core.Path.{subst, ap, sym, _≡_, _∙_}
 use Prim.Native.Nat.{ℕ}
 use native.Mathlib.Omega.{arith}
 use Rattle.answer.specs.Refusals.{refusalNumber, refusalPlace}
+use Rattle.answer.specs.declared.Refusal.{Refusal}
+use Rattle.promises.specs.OnText.{TextRefused}
 use Rattle.register.specs.Register.{Register, Places, written}
 use Rattle.register.specs.Reads.{Accepts}
 use Rattle.listing.specs.Rows.{refusedRow}
 use Rattle.listing.specs.Listing.{IsListing}
 use Rattle.listing.proofs.Listing.{listing-once}
 use Rattle.promises.specs.Programs.{Prints, Names, ReasonNamed, NoneNamed, PrintsRefusal, PrintsReason, Outcome, Mends}
-use Rattle.promises.specs.Programs.{no-report, with-report}
+use Rattle.promises.specs.Programs.{no-report, with-report, PrintsFault}
 use Rattle.register.proofs.Number.{decimal-injective}
-use Rattle.answer.specs.declared.Refusal.the-variants.{Asked}
+use Rattle.answer.specs.declared.Refusal.the-variants.{Asked, Text}
 use Rattle.register.proofs.Order.{place-once}
 use Rattle.reason.specs.Reasons.{IsReason}
 use Rattle.reason.proofs.Reasons.{reason-once}
@@ -22,13 +24,20 @@ use Rattle.mend.proofs.TextLines.{lines-once}
 use Rattle.mend.specs.Report.{reportOf}
 use Rattle.register.proofs.Unique as text
 
+fault-printed-once : (s a b : List ℕ) → PrintsFault s a → PrintsFault s b → a ≡ b
+fault-printed-once s a b (r, p, e) (t, q, f) =
+    e ∙ ap (λ u. refusedRow (refusalNumber (Text u)) (refusalPlace (Text u))) (text.refuses-once s r t p q) ∙ sym f
+
+-- the line of a text's refusal is that of its fault
+pub fault-printed : (s printed : List ℕ) (r : Refusal) → TextRefused s r → PrintsRefusal r printed → PrintsFault s printed
+fault-printed s printed r (f, p, is) e = (f, p, subst (λ u. PrintsRefusal u printed) is e)
+
 pub printed-once : (s a b : List ℕ) → Prints s a → Prints s b → a ≡ b
 printed-once s a b (inl (R, p, is)) (inl (Q, q, isn)) =
     listing-once R a b is (subst (λ T. IsListing T b) (text.accepts-once s Q R q p) isn)
 printed-once s a b (inl (R, p, is)) (inr (r, q, e)) = absurd (text.not-both s R r p q)
 printed-once s a b (inr (r, p, e)) (inl (R, q, is)) = absurd (text.not-both s R r q p)
-printed-once s a b (inr (r, p, e)) (inr (t, q, f)) =
-    e ∙ ap (λ u. refusedRow (refusalNumber u) (refusalPlace u)) (text.refuses-once s r t p q) ∙ sym f
+printed-once s a b (inr p) (inr q) = fault-printed-once s a b p q
 
 pub names-once : (argument : List ℕ) (n m : ℕ) → Names argument n → Names argument m → n ≡ m
 names-once argument n m (h, e) (k, f) = decimal-injective n m (omega (arith, h .1)) (omega (arith, k .1)) (sym e ∙ f)
@@ -47,8 +56,7 @@ module _ (s argument a b : List ℕ) where
   one-accepted R t (inr (none, e)) (inr (same, f)) = e ∙ sym f
 
   pub reason-printed-once : PrintsReason s argument a → PrintsReason s argument b → a ≡ b
-  reason-printed-once (inl (r, p, e)) (inl (t, q, f)) =
-      e ∙ ap (λ u. refusedRow (refusalNumber u) (refusalPlace u)) (text.refuses-once s r t p q) ∙ sym f
+  reason-printed-once (inl p) (inl q) = fault-printed-once s a b p q
   reason-printed-once (inl (r, p, e)) (inr (R, q, g)) = absurd (text.not-both s R r q p)
   reason-printed-once (inr (R, p, g)) (inl (r, q, e)) = absurd (text.not-both s R r p q)
   reason-printed-once (inr (R, p, g)) (inr (Q, q, k)) =

@@ -13,8 +13,9 @@ use Rattle.answer.specs.declared.Refusal.{Refusal}
 use Rattle.answer.specs.Answer.{Asks}
 use Rattle.answer.specs.declared.Answer.{Answer}
 use Rattle.answer.proofs.Promises.{asks-none, asks-once, Exactly}
+use Rattle.answer.proofs.Inputs.{on-unique}
 use Rattle.register.proofs.Order.{place-once}
-use Rattle.promises.proofs.OnText.{text-unique}
+use Rattle.promises.proofs.OnText.{text-apart}
 use Rattle.promises.proofs.AskedOnText.{list-unique, asked-exactly, list-apart}
 use Rattle.promises.specs.ArgumentCalls.{byNumber, TextArgument, TextArgumentShort, TextArgumentIn}
 use Rattle.promises.specs.ExerciseCalls.{TextExerciseIn, TextExercise}
@@ -46,8 +47,8 @@ module _ (s : List ℕ) where
 
       pub unique-text-exercise : (a a′ : Answer) → TextExercise s number turns a → TextExercise s number turns a′ → a ≡ a′
       unique-text-exercise a a′ p q =
-          text-unique s (λ R. Asks (Issued R number) turns ⊥) (λ R. TextExerciseIn R number turns)
-          (λ R. asks-once (Issued R number) turns ⊥) exercise-apart same tt a a′ tt tt p q .0
+          on-unique (text-apart s) (λ R. Asks (Issued R number) turns ⊥) (λ R. asks-once (Issued R number) turns ⊥)
+          (λ R. TextExerciseIn R number turns) exercise-apart same tt a a′ tt tt p q .0
         where
           same : (R : Register) → Accepts s R → (n n′ : ℕ) (after after′ : Unit {0}) → TextExerciseIn R number turns n after
               → TextExerciseIn R number turns n′ after′ → (n ≡ n′) × (after ≡ after′)

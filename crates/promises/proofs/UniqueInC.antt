@@ -7,12 +7,11 @@ use Rattle.promises.specs.LabelCalls.{PairsLabels, PairsLengths, MovesLa
 use Rattle.promises.specs.KindCalls.{PairsKinds}
 use Rattle.promises.specs.ArgumentCalls.{PairsArgument, TextArgument}
 use Rattle.promises.specs.ExerciseCalls.{PairsExercise, TextExercise}
-use Rattle.promises.proofs.UniqueLabelsLists.{unique-pairs-labels, unique-pairs-lengths, unique-moves-labels}
-use Rattle.promises.proofs.UniqueLabelsLists.{unique-moves-lengths}
+use Rattle.promises.proofs.UniqueLabels.{unique-pairs-labels, unique-pairs-lengths, unique-moves-labels}
+use Rattle.promises.proofs.UniqueLabels.{unique-moves-lengths, unique-text-labels, unique-text-lengths}
 use Rattle.promises.proofs.UniqueKinds.{unique-pairs-kinds}
 use Rattle.promises.proofs.UniqueAskedLists.{unique-pairs-line, unique-pairs-exercise}
 use Rattle.promises.specs.ListingCalls.{TextListing}
-use Rattle.promises.proofs.UniqueLabelsText.{unique-text-labels, unique-text-lengths}
 use Rattle.promises.proofs.UniqueListing.{unique-text-listing}
 use Rattle.promises.proofs.UniqueAskedText.{unique-text-line, unique-text-exercise}
 use Rattle.promises.specs.ReasonCalls.{TextReason}

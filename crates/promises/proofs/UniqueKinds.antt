@@ -9,14 +9,13 @@ use Rattle.game.specs.Book.{Book, bookOf}
 use Rattle.game.specs.Objection.{OfKind}
 use Rattle.game.specs.declared.Kind.{Kind}
 use Rattle.game.proofs.Objection.{kind-unique}
-use Rattle.answer.specs.declared.Refusal.{Refusal}
 use Rattle.answer.specs.Answer.{Short, Begins}
 use Rattle.answer.specs.declared.Answer.{Answer}
 use Rattle.answer.proofs.Rooms.{begins-unique}
-use Rattle.answer.proofs.Promises.{promised-unique, short-once}
-use Rattle.promises.specs.OnLists.{ListsRefuse}
-use Rattle.promises.proofs.UniqueLabelsLists.{refuse-once, refuse-apart}
-use Rattle.promises.specs.KindCalls.{PairsKinds, KindsGiven, KindsShort}
+use Rattle.answer.proofs.Promises.{short-once}
+use Rattle.answer.proofs.Inputs.{on-unique}
+use Rattle.promises.proofs.OnLists.{lists-apart}
+use Rattle.promises.specs.KindCalls.{PairsKinds, KindsIn, KindsShort}
 
 -- an objection's number is one
 objection-number : (B : Book) (number : Kind → ℕ) (y x e e′ : ℕ) → (κ : Kind) × OfKind B y x κ × (e ≡ number κ) → (κ : Kind)
@@ -28,17 +27,14 @@ module _ (marks objectors targets : List ℕ) where
       → PairsKinds marks objectors targets rooms a after → PairsKinds marks objectors targets rooms a′ after′ → (a ≡ a′)
       × (after ≡ after′)
   unique-pairs-kinds rooms =
-      promised-unique (ListsRefuse marks objectors targets later) (KindsGiven marks objectors targets rooms)
-      (refuse-once marks objectors targets later (short-once (KindsShort objectors rooms)))
-      (λ r n after p g. refuse-apart marks objectors targets later r p (g .0) (λ h. room-left n after g (h .0))) same rooms
+      on-unique (lists-apart marks objectors targets) (λ m. Short (KindsShort objectors rooms))
+      (λ m. short-once (KindsShort objectors rooms)) (λ m. KindsIn marks objectors targets rooms)
+      (λ m l r n after p g. room-left n after g (p .0)) (λ m l. same) rooms
     where
-      later : Refusal → Type 0
-      later = Short (KindsShort objectors rooms)
-
-      room-left : (n : ℕ) (after : List ℕ × List ℕ) → KindsGiven marks objectors targets rooms n after
-          → KindsShort objectors rooms → ⊥
-      room-left n after g (inl h) = omega (arith, g .1, g .2 .fits)
-      room-left n after g (inr h) = omega (arith, g .1, g .3 .fits)
+      room-left : (n : ℕ) (after : List ℕ × List ℕ) → KindsIn marks objectors targets rooms n after → KindsShort objectors rooms
+          → ⊥
+      room-left n after g (inl h) = omega (arith, g .0, g .1 .fits)
+      room-left n after g (inr h) = omega (arith, g .0, g .2 .fits)
 
       entry : (Kind → ℕ) → ℕ → ℕ → Type 0
       entry number k e =
@@ -50,9 +46,9 @@ module _ (marks objectors targets : List ℕ) where
           begins-unique (entry number) room n after after′ (λ k i j h. objection-number (bookOf marks objectors targets) number
           (getD objectors k 0) (getD targets k 0) i j) b b′
 
-      same : (n n′ : ℕ) (after after′ : List ℕ × List ℕ) → KindsGiven marks objectors targets rooms n after
-          → KindsGiven marks objectors targets rooms n′ after′ → (n ≡ n′) × (after ≡ after′)
-      same n n′ after after′ (l, e, b, c) (l′, e′, b′, c′) =
+      same : (n n′ : ℕ) (after after′ : List ℕ × List ℕ) → KindsIn marks objectors targets rooms n after
+          → KindsIn marks objectors targets rooms n′ after′ → (n ≡ n′) × (after ≡ after′)
+      same n n′ after after′ (e, b, c) (e′, b′, c′) =
           let q : n′ ≡ n = e′ ∙ sym e in
           let f : after .0 ≡ after′ .0 = one-room _ n (rooms .0) (after .0) (after′ .0) b (rw q at b′) in
           let g : after .1 ≡ after′ .1 = one-room _ n (rooms .1) (after .1) (after′ .1) c (rw q at c′) in

@@ -10,14 +10,15 @@ use Rattle.answer.specs.Answer.{Short}
 use Rattle.answer.specs.declared.Answer.{Answer}
 use Rattle.answer.proofs.Rooms.{written-unique}
 use Rattle.answer.proofs.Promises.{short-once}
-use Rattle.promises.proofs.OnText.{text-unique}
+use Rattle.answer.proofs.Inputs.{on-unique}
+use Rattle.promises.proofs.OnText.{text-apart}
 use Rattle.promises.specs.ListingCalls.{TextListing, ListingShort, ListingIn}
 
 module _ (s : List ℕ) where
   pub unique-text-listing : (room : List ℕ) (a a′ : Answer) (after after′ : List ℕ) → TextListing s room a after
       → TextListing s room a′ after′ → (a ≡ a′) × (after ≡ after′)
   unique-text-listing room =
-      text-unique s (λ R. Short (ListingShort room R)) (λ R. ListingIn R room) (λ R. short-once (ListingShort room R))
+      on-unique (text-apart s) (λ R. Short (ListingShort room R)) (λ R. short-once (ListingShort room R)) (λ R. ListingIn R room)
       (λ R t r n after p g. fits R n after g (p .0)) (λ R t. same R) room
     where
       fits : (R : Register) (n : ℕ) (after : List ℕ) → ListingIn R room n after → ¬ ListingShort room R

@@ -8,7 +8,8 @@ use native.Mathlib.Omega.{arith}
 use lib.ListN.{length}
 use Rattle.game.specs.Book.{Book}
 use Rattle.register.specs.Register.{book, Register}
-use Rattle.register.specs.Reads.{Accepts, Refuses}
+use Rattle.register.specs.Reads.{Accepts}
+use Rattle.promises.specs.OnText.{TextRefused}
 use Rattle.answer.specs.declared.Refusal.{Refusal}
 use Rattle.answer.specs.declared.Refusal.the-variants.{Room, Sheet}
 use Rattle.answer.specs.Answer.{Begins, Short}
@@ -16,9 +17,10 @@ use Rattle.answer.specs.declared.Answer.{Answer}
 use Rattle.answer.proofs.Rooms.{written-unique, begins-unique}
 use Rattle.answer.specs.declared.Answer.the-variants.{Refused}
 use Rattle.answer.proofs.Promises.{short-once, number-clash}
+use Rattle.answer.proofs.Inputs.{on-unique, on-exactly}
 use Rattle.sheet.specs.Sheet.{total, codes}
 use Rattle.sheet.proofs.Sheets.{sheet-once}
-use Rattle.promises.proofs.OnText.{text-unique, text-exactly}
+use Rattle.promises.proofs.OnText.{text-apart, no-text-fault}
 use Rattle.promises.specs.SheetCalls.{SheetIn, SheetShort, UpdateRefused, UpdatedIn, TextSheet, TextSheetUpdate, OldSheet}
 
 module _ (B : Book) (rooms : List ℕ × List ℕ) where
@@ -53,24 +55,24 @@ module _ (s : List ℕ) (rooms : List ℕ × List ℕ) where
   pub unique-text-sheet : (a a′ : Answer) (after after′ : List ℕ × List ℕ) → TextSheet s rooms a after
       → TextSheet s rooms a′ after′ → (a ≡ a′) × (after ≡ after′)
   unique-text-sheet =
-      text-unique s (λ R. Short (SheetShort (book R) rooms)) (λ R. SheetIn (book R) rooms)
-      (λ R. short-once (SheetShort (book R) rooms)) (λ R t r n after p g. sheet-fits (book R) rooms n after g (p .0))
+      on-unique (text-apart s) (λ R. Short (SheetShort (book R) rooms)) (λ R. short-once (SheetShort (book R) rooms))
+      (λ R. SheetIn (book R) rooms) (λ R t r n after p g. sheet-fits (book R) rooms n after g (p .0))
       (λ R t. sheet-in-once (book R) rooms) rooms
 
   pub unique-text-sheet-update : (a a′ : Answer) (after after′ : List ℕ × List ℕ) → TextSheetUpdate s rooms a after
       → TextSheetUpdate s rooms a′ after′ → (a ≡ a′) × (after ≡ after′)
   unique-text-sheet-update =
-      text-unique s (λ R. UpdateRefused (book R) rooms) (λ R. UpdatedIn (book R) rooms)
-      (λ R. update-refused-once (book R) rooms) (λ R t r n after p g. updated-fits (book R) rooms n after g r p)
+      on-unique (text-apart s) (λ R. UpdateRefused (book R) rooms) (λ R. update-refused-once (book R) rooms)
+      (λ R. UpdatedIn (book R) rooms) (λ R t r n after p g. updated-fits (book R) rooms n after g r p)
       (λ R t n n′ after after′ p q. sheet-in-once (book R) rooms n n′ after after′ (p .1) (q .1)) rooms
 
   -- 10 of a fresh sheet, given exactly when either room is short
   pub exactly-text-sheet : (a : Answer) (after : List ℕ × List ℕ) → TextSheet s rooms a after
       → (a ≡ Refused Room) ↔ ((R : Register) × Accepts s R × SheetShort (book R) rooms)
   exactly-text-sheet a after p =
-      text-exactly s (λ R. Short (SheetShort (book R) rooms)) (λ R. SheetIn (book R) rooms)
-      (λ R. short-once (SheetShort (book R) rooms)) (λ R t r n after p g. sheet-fits (book R) rooms n after g (p .0))
-      rooms a after p Room (λ z. z) (λ R. SheetShort (book R) rooms) (λ R. (λ q. q .0, λ h. (h, refl)))
+      on-exactly (text-apart s) (λ R. Short (SheetShort (book R) rooms)) (λ R. short-once (SheetShort (book R) rooms))
+      (λ R. SheetIn (book R) rooms) (λ R t r n after p g. sheet-fits (book R) rooms n after g (p .0))
+      rooms a after p Room (no-text-fault s Room tt) (λ R. SheetShort (book R) rooms) (λ R. (λ q. q .0, λ h. (h, refl)))
 
   -- 16 of an update, given exactly when the old sheet is not sound, and then 10
   pub record ExactlyUpdate (a : Answer) : Type 0 where
@@ -80,18 +82,18 @@ module _ (s : List ℕ) (rooms : List ℕ × List ℕ) where
   pub exactly-text-sheet-update : (a : Answer) (after : List ℕ × List ℕ) → TextSheetUpdate s rooms a after → ExactlyUpdate a
   exactly-text-sheet-update a after p = record {
     sixteen =
-        due Sheet (λ z. z) (λ R. ¬ OldSheet (book R) rooms)
+        due Sheet (no-text-fault s Sheet tt) (λ R. ¬ OldSheet (book R) rooms)
         (λ R. (unsound (book R), λ n. inl (n, refl)));
     ten =
-        due Room (λ z. z) (λ R. OldSheet (book R) rooms × (length (rooms .1) < codes))
+        due Room (no-text-fault s Room tt) (λ R. OldSheet (book R) rooms × (length (rooms .1) < codes))
         (λ R. (short (book R), λ (old, h). inr (old, (h, refl))));
   }
     where
-      due : (r : Refusal) → ¬ Refuses s r → (due : Register → Type 0) → ((R : Register) → UpdateRefused (book R) rooms r ↔ due R)
+      due : (r : Refusal) → ¬ TextRefused s r → (due : Register → Type 0) → ((R : Register) → UpdateRefused (book R) rooms r ↔ due R)
           → (a ≡ Refused r) ↔ ((R : Register) × Accepts s R × due R)
       due =
-          text-exactly s (λ R. UpdateRefused (book R) rooms) (λ R. UpdatedIn (book R) rooms)
-          (λ R. update-refused-once (book R) rooms) (λ R t r n after p g. updated-fits (book R) rooms n after g r p) rooms a
+          on-exactly (text-apart s) (λ R. UpdateRefused (book R) rooms) (λ R. update-refused-once (book R) rooms)
+          (λ R. UpdatedIn (book R) rooms) (λ R t r n after p g. updated-fits (book R) rooms n after g r p) rooms a
           after p
 
       unsound : (B : Book) → UpdateRefused B rooms Sheet → ¬ OldSheet B rooms

@@ -5,30 +5,27 @@ use Prim.Native.Nat.{ℕ, _<_}
 use lib.ListN.{length, getD}
 use Rattle.game.specs.Book.{bookOf}
 use Rattle.game.specs.Argument.{Argument}
-use Rattle.lists.specs.Refuses.{Lists}
-use Rattle.answer.specs.Answer.{Written, Promised, Asks}
+use Rattle.answer.specs.Answer.{Written, Asks}
 use Rattle.answer.specs.declared.Answer.{Answer}
-use Rattle.promises.specs.OnLists.{ListsRefuse}
+use Rattle.promises.specs.OnLists.{OnLists}
 use Rattle.register.specs.Register.{Register, numbers, Places, book, Issued}
 use Rattle.answer.specs.declared.Refusal.{Refusal}
-use Rattle.register.specs.Reads.{Accepts}
-use Rattle.promises.specs.OnText.{TextRefuses}
+use Rattle.promises.specs.OnText.{OnText}
 
 module _ (marks objectors targets : List ℕ) where
   -- the line of argument of the statement at a place, by places; the room is shorter than that
-  abbrev pub PairsArgumentGiven : (place : ℕ) → List ℕ → ℕ → List ℕ → Type 0
-  PairsArgumentGiven place room n after =
-      Lists marks objectors targets × (place < length marks)
-      × ((l : List ℕ) × Argument (bookOf marks objectors targets) place l × Written l room n after)
+  abbrev pub PairsArgumentIn : (place : ℕ) → List ℕ → ℕ → List ℕ → Type 0
+  PairsArgumentIn place room n after =
+      (place < length marks) × ((l : List ℕ) × Argument (bookOf marks objectors targets) place l × Written l room n after)
 
   abbrev pub PairsArgumentShort : (place : ℕ) → List ℕ → Type 0
   PairsArgumentShort place room = (l : List ℕ) × Argument (bookOf marks objectors targets) place l × (length room < length l)
 
   -- 14 for lists: the asked place is not below the number of marks
   abbrev pub PairsArgument : (place : ℕ) → List ℕ → Answer → List ℕ → Type 0
-  PairsArgument place room a after =
-      Promised (ListsRefuse marks objectors targets (Asks (place < length marks) 0 (PairsArgumentShort place room)))
-      (PairsArgumentGiven place room) room a after
+  PairsArgument place room =
+      OnLists marks objectors targets (Asks (place < length marks) 0 (PairsArgumentShort place room))
+      (PairsArgumentIn place room) room
 
 -- places told by their numbers
 abbrev pub byNumber : Register → List ℕ → List ℕ
@@ -46,9 +43,7 @@ TextArgumentShort R number room = (x : ℕ) × Places R number x × ((l : List �
 abbrev pub TextArgumentRefused : Register → (number : ℕ) → List ℕ → Refusal → Type 0
 TextArgumentRefused R number room = Asks (Issued R number) 0 (TextArgumentShort R number room)
 
-module _ (text : List ℕ) where
-  -- the line of argument of the statement of a number
-  abbrev pub TextArgument : (number : ℕ) → List ℕ → Answer → List ℕ → Type 0
-  TextArgument number room a after =
-      Promised (TextRefuses text (λ R. TextArgumentRefused R number room))
-      (λ n after. (R : Register) × Accepts text R × TextArgumentIn R number room n after) room a after
+-- the line of argument of the statement of a number
+abbrev pub TextArgument : (text : List ℕ) → (number : ℕ) → List ℕ → Answer → List ℕ → Type 0
+TextArgument text number room =
+    OnText text (λ R. TextArgumentRefused R number room) (λ R. TextArgumentIn R number room) room

@@ -5,33 +5,27 @@ use Prim.Native.Nat.{ℕ, _≤_, _<_}
 use lib.ListN.{length}
 use Rattle.game.specs.Book.{bookOf}
 use Rattle.game.specs.Exercise.{Answered}
-use Rattle.lists.specs.Refuses.{Lists}
-use Rattle.answer.specs.Answer.{Promised, Asks}
+use Rattle.answer.specs.Answer.{Asks}
 use Rattle.answer.specs.declared.Answer.{Answer}
-use Rattle.promises.specs.OnLists.{ListsRefuse}
+use Rattle.promises.specs.OnLists.{OnLists}
 use Rattle.register.specs.Register.{Register, Places, book, Issued}
-use Rattle.register.specs.Reads.{Accepts}
-use Rattle.promises.specs.OnText.{TextRefuses}
+use Rattle.promises.specs.OnText.{OnText}
 
 module _ (marks objectors targets : List ℕ) where
   -- what the class exercise answers; it lends no room
-  abbrev pub PairsExerciseGiven : (place turns : ℕ) → ℕ → Unit {0} → Type 0
-  PairsExerciseGiven place turns n after =
-      Lists marks objectors targets × (place < length marks) × (turns ≤ 6)
-      × Answered (bookOf marks objectors targets) place turns n
+  abbrev pub PairsExerciseIn : (place turns : ℕ) → ℕ → Unit {0} → Type 0
+  PairsExerciseIn place turns n after =
+      (place < length marks) × (turns ≤ 6) × Answered (bookOf marks objectors targets) place turns n
 
   abbrev pub PairsExercise : (place turns : ℕ) → Answer → Type 0
   PairsExercise place turns a =
-      Promised (ListsRefuse marks objectors targets (Asks (place < length marks) turns ⊥))
-      (PairsExerciseGiven place turns) tt a tt
+      OnLists marks objectors targets (Asks (place < length marks) turns ⊥) (PairsExerciseIn place turns) tt a tt
 
 -- the class exercise's answer of the statement of this number
 abbrev pub TextExerciseIn : Register → (number turns : ℕ) → ℕ → Unit {0} → Type 0
 TextExerciseIn R number turns n after = (turns ≤ 6) × ((x : ℕ) × Places R number x × Answered (book R) x turns n)
 
-module _ (text : List ℕ) where
-  -- what the class exercise answers; it lends no room
-  abbrev pub TextExercise : (number turns : ℕ) → Answer → Type 0
-  TextExercise number turns a =
-      Promised (TextRefuses text (λ R. Asks (Issued R number) turns ⊥))
-      (λ n after. (R : Register) × Accepts text R × TextExerciseIn R number turns n after) tt a tt
+-- what the class exercise answers; it lends no room
+abbrev pub TextExercise : (text : List ℕ) → (number turns : ℕ) → Answer → Type 0
+TextExercise text number turns a =
+    OnText text (λ R. Asks (Issued R number) turns ⊥) (λ R. TextExerciseIn R number turns) tt a tt

@@ -7,10 +7,9 @@ use lib.ListN.{length, getD}
 use Rattle.game.specs.Book.{bookOf}
 use Rattle.game.specs.Objection.{OfKind, kindNumber, kindLength}
 use Rattle.game.specs.declared.Kind.{Kind}
-use Rattle.lists.specs.Refuses.{Lists}
-use Rattle.answer.specs.Answer.{Begins, Promised, Short}
+use Rattle.answer.specs.Answer.{Begins, Short}
 use Rattle.answer.specs.declared.Answer.{Answer}
-use Rattle.promises.specs.OnLists.{ListsRefuse}
+use Rattle.promises.specs.OnLists.{OnLists}
 
 -- either room is shorter than the answer
 abbrev pub KindsShort : (objectors : List ℕ) → List ℕ × List ℕ → Type 0
@@ -25,11 +24,9 @@ module _ (marks objectors targets : List ℕ) where
       room after
 
   -- kinds and lengths, each in its own room
-  abbrev pub KindsGiven : List ℕ × List ℕ → ℕ → List ℕ × List ℕ → Type 0
-  KindsGiven rooms n after =
-      Lists marks objectors targets × (n ≡ length objectors)
-      × Objections kindNumber n (rooms .0) (after .0) × Objections kindLength n (rooms .1) (after .1)
+  abbrev pub KindsIn : List ℕ × List ℕ → ℕ → List ℕ × List ℕ → Type 0
+  KindsIn rooms n after =
+      (n ≡ length objectors) × Objections kindNumber n (rooms .0) (after .0) × Objections kindLength n (rooms .1) (after .1)
 
   abbrev pub PairsKinds : List ℕ × List ℕ → Answer → List ℕ × List ℕ → Type 0
-  PairsKinds rooms a after =
-      Promised (ListsRefuse marks objectors targets (Short (KindsShort objectors rooms))) (KindsGiven rooms) rooms a after
+  PairsKinds rooms = OnLists marks objectors targets (Short (KindsShort objectors rooms)) (KindsIn rooms) rooms

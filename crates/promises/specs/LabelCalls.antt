@@ -4,30 +4,30 @@ use mathlib.Core.List.{List}
 use mathlib.Core.Path.{_≡_}
 use Prim.Native.Nat.{ℕ, _<_}
 use lib.ListN.{length}
-use Rattle.game.specs.Book.{bookOf}
+use Rattle.game.specs.Book.{Book, bookOf}
 use Rattle.game.specs.Label.{Verdict, Means, labelNumber, lengthNumber}
-use Rattle.lists.specs.Refuses.{Lists}
-use Rattle.answer.specs.Answer.{Promised, Short, Begins}
+use Rattle.answer.specs.Answer.{Short, Begins}
 use Rattle.answer.specs.declared.Answer.{Answer}
-use Rattle.register.specs.Register.{Register, book}
-use Rattle.register.specs.Reads.{Accepts}
-use Rattle.promises.specs.OnText.{TextRefuses}
-use Rattle.promises.specs.OnLists.{ListsRefuse}
+use Rattle.register.specs.Register.{book}
+use Rattle.promises.specs.OnText.{OnText}
+use Rattle.promises.specs.OnLists.{OnLists}
+
+-- a number for each of so many statements, in listed order
+abbrev pub StatementsIn : Book → (Verdict → ℕ) → (statements : ℕ) → List ℕ → ℕ → List ℕ → Type 0
+StatementsIn B number statements room n after =
+    (n ≡ statements) × Begins n (λ x e. (v : Verdict) × Means B x v × (e ≡ number v)) room after
 
 module _ (marks objectors targets : List ℕ) where
-  -- a number for each statement, in listed order
-  abbrev pub Statements : (Verdict → ℕ) → List ℕ → Answer → List ℕ → Type 0
-  Statements number room a after =
-      Promised (ListsRefuse marks objectors targets (Short (length room < length marks)))
-      (λ n after. Lists marks objectors targets × (n ≡ length marks)
-      × Begins n (λ x e. (v : Verdict) × Means (bookOf marks objectors targets) x v × (e ≡ number v)) room after)
-      room a after
+  abbrev pub PairsStatements : (Verdict → ℕ) → List ℕ → Answer → List ℕ → Type 0
+  PairsStatements number room =
+      OnLists marks objectors targets (Short (length room < length marks))
+      (StatementsIn (bookOf marks objectors targets) number (length marks) room) room
 
   abbrev pub PairsLabels : List ℕ → Answer → List ℕ → Type 0
-  PairsLabels = Statements labelNumber
+  PairsLabels = PairsStatements labelNumber
 
   abbrev pub PairsLengths : List ℕ → Answer → List ℕ → Type 0
-  PairsLengths = Statements lengthNumber
+  PairsLengths = PairsStatements lengthNumber
 
 -- "A caller may hand over moves instead, which is the same with the two lists exchanged, and gets the same labels and
 -- lengths." A move goes from the target to the objector.
@@ -38,15 +38,10 @@ abbrev pub MovesLengths : (marks from to : List ℕ) → List ℕ → Answer →
 MovesLengths marks from to = PairsLengths marks to from
 
 module _ (text : List ℕ) where
-  -- a number for each statement, in listed order
-  abbrev pub StatementsGiven : (Verdict → ℕ) → List ℕ → ℕ → List ℕ → Type 0
-  StatementsGiven number room n after =
-      (R : Register) × Accepts text R × (n ≡ length (R .statements))
-      × Begins n (λ x e. (v : Verdict) × Means (book R) x v × (e ≡ number v)) room after
-
   abbrev pub TextStatements : (Verdict → ℕ) → List ℕ → Answer → List ℕ → Type 0
-  TextStatements number room a after =
-      Promised (TextRefuses text (λ R. Short (length room < length (R .statements)))) (StatementsGiven number room) room a after
+  TextStatements number room =
+      OnText text (λ R. Short (length room < length (R .statements)))
+      (λ R. StatementsIn (book R) number (length (R .statements)) room) room
 
   abbrev pub TextLabels : List ℕ → Answer → List ℕ → Type 0
   TextLabels = TextStatements labelNumber

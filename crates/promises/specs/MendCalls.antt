@@ -7,8 +7,9 @@ use Prim.Native.Nat.{ℕ, _≤_, _<_}
 use lib.ListN.{length}
 use Rattle.register.specs.Register.{written}
 use Rattle.answer.specs.declared.Refusal.{Refusal}
-use Rattle.answer.specs.declared.Refusal.the-variants.{TooLong}
-use Rattle.answer.specs.Answer.{Written, Short, Promised}
+use Rattle.answer.specs.declared.Refusal.the-variants.{Text}
+use Rattle.register.specs.declared.TextFault.the-variants.{TooLong}
+use Rattle.answer.specs.Answer.{Written, Short, OnInput}
 use Rattle.answer.specs.declared.Answer.{Answer}
 use Rattle.mend.specs.TextLines.{TextLine, LinesOf}
 use Rattle.mend.specs.Mended.{mended, fates}
@@ -27,14 +28,13 @@ MendedIn ls lent n after =
 abbrev pub MendedShort : List TextLine → Lent → Type 0
 MendedShort ls lent = (length (lent .0) < length (written (mended ls))) ⊎ (length (lent .1) < length (reportOf (fates ls)))
 
--- of the lines that the text has
-abbrev pub Lined : (text : List ℕ) → (List TextLine → Type 0) → Type 0
-Lined text P = (length text ≤ 65535) × ((ls : List TextLine) × LinesOf text ls × P ls)
+-- A text that is to be mended need not be a register: it is accepted as the lines that it has. "Refusals: only 1, then 10 if
+-- either room is short."
+abbrev pub Lined : (text : List ℕ) → List TextLine → Type 0
+Lined text ls = (length text ≤ 65535) × LinesOf text ls
 
--- "Refusals: only 1, then 10 if either room is short."
-abbrev pub MendRefused : (text : List ℕ) → Lent → Refusal → Type 0
-MendRefused text lent r = ((65535 < length text) × (r ≡ TooLong)) ⊎ Short (Lined text (λ ls. MendedShort ls lent)) r
+abbrev pub LinesRefused : (text : List ℕ) → Refusal → Type 0
+LinesRefused text r = (65535 < length text) × (r ≡ Text TooLong)
 
 abbrev pub TextMend : (text : List ℕ) → Lent → Answer → Lent → Type 0
-TextMend text lent a after =
-    Promised (MendRefused text lent) (λ n after. Lined text (λ ls. MendedIn ls lent n after)) lent a after
+TextMend text lent = OnInput (Lined text) (LinesRefused text) (λ ls. Short (MendedShort ls lent)) (λ ls. MendedIn ls lent) lent

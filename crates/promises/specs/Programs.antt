@@ -13,25 +13,28 @@ use Rattle.listing.specs.Rows.{refusedRow}
 use Rattle.listing.specs.Listing.{IsListing}
 use Rattle.register.specs.Reads.{Accepts, Refuses}
 use Rattle.register.specs.Number.{IsNumber, numberBytes}
-use Rattle.answer.specs.declared.Refusal.the-variants.{Asked, TooLong}
+use Rattle.answer.specs.declared.Refusal.the-variants.{Asked, Text}
+use Rattle.register.specs.declared.TextFault.{TextFault}
+use Rattle.register.specs.declared.TextFault.the-variants.{TooLong}
 use Rattle.reason.specs.Reasons.{IsReason}
 use Rattle.mend.specs.TextLines.{TextLine, LinesOf}
 use Rattle.mend.specs.Mended.{mended, fates}
 use Rattle.mend.specs.Report.{reportOf}
 
--- `list`: the listing, or the line of the refusal. Refusals of a text have the numbers 1 to 9.
+-- the line of a refusal; and that of the fault of a text that is refused, so with a number from 1 to 9
+abbrev pub PrintsRefusal : Refusal → List ℕ → Type 0
+PrintsRefusal r printed = printed ≡ refusedRow (refusalNumber r) (refusalPlace r)
+
+abbrev pub PrintsFault : (text printed : List ℕ) → Type 0
+PrintsFault text printed = (fault : TextFault) × Refuses text fault × PrintsRefusal (Text fault) printed
+
+-- `list`: the listing, or the line of the refusal
 abbrev pub Prints : (text printed : List ℕ) → Type 0
-Prints text printed =
-    ((R : Register) × Accepts text R × IsListing R printed)
-    ⊎ ((r : Refusal) × Refuses text r × (printed ≡ refusedRow (refusalNumber r) (refusalPlace r)))
+Prints text printed = ((R : Register) × Accepts text R × IsListing R printed) ⊎ PrintsFault text printed
 
 -- the argument is this number, as a register text has it
 abbrev pub Names : (argument : List ℕ) → (number : ℕ) → Type 0
 Names argument number = IsNumber number × (argument ≡ numberBytes number)
-
--- the line of a refusal
-abbrev pub PrintsRefusal : Refusal → List ℕ → Type 0
-PrintsRefusal r printed = printed ≡ refusedRow (refusalNumber r) (refusalPlace r)
 
 -- the reason of the statement of the register that the argument names; or it names none
 abbrev pub ReasonNamed : Register → (argument printed : List ℕ) → Type 0
@@ -40,11 +43,10 @@ ReasonNamed R argument printed = (number x : ℕ) × Names argument number × Pl
 abbrev pub NoneNamed : Register → (argument : List ℕ) → Type 0
 NoneNamed R argument = (number : ℕ) → Names argument number → ¬ Issued R number
 
--- `reason`: refusals of a text have the numbers 1 to 9; of an accepted one only 14 is printed, where the argument names no
--- statement of it
+-- `reason`: of an accepted text only 14 is printed, where the argument names no statement of it
 abbrev pub PrintsReason : (text argument printed : List ℕ) → Type 0
 PrintsReason text argument printed =
-    ((r : Refusal) × Refuses text r × PrintsRefusal r printed)
+    PrintsFault text printed
     ⊎ ((R : Register) × Accepts text R × (ReasonNamed R argument printed ⊎ (NoneNamed R argument × PrintsRefusal Asked printed)))
 
 -- What comes of a text that is to be mended. No report is not an empty one: the file for it is not touched.
@@ -55,7 +57,7 @@ pub data Outcome : Type 0 where
 -- `mend`: a text over 65,535 bytes is refused: its line is printed, and nothing reported. Of the lines of any other, the mended
 -- register is printed, and what was dropped or moved is reported. So 1 is the only refusal printed.
 abbrev pub Mends : (text : List ℕ) → Outcome → Type 0
-Mends text (no-report printed) = (65535 < length text) × (printed ≡ refusedRow (refusalNumber TooLong) (refusalPlace TooLong))
+Mends text (no-report printed) = (65535 < length text) × PrintsRefusal (Text TooLong) printed
 Mends text (with-report printed reported) =
     (length text ≤ 65535) × ((ls : List TextLine) × LinesOf text ls × (printed ≡ written (mended ls))
     × (reported ≡ reportOf (fates ls)))

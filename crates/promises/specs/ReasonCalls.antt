@@ -3,10 +3,9 @@ use mathlib.Core.List.{List}
 use Prim.Native.Nat.{ℕ, _<_}
 use lib.ListN.{length}
 use Rattle.register.specs.Register.{Register, Places, Issued}
-use Rattle.register.specs.Reads.{Accepts}
-use Rattle.promises.specs.OnText.{TextRefuses}
+use Rattle.promises.specs.OnText.{OnText}
 use Rattle.answer.specs.declared.Refusal.{Refusal}
-use Rattle.answer.specs.Answer.{Written, Asks, Promised}
+use Rattle.answer.specs.Answer.{Written, Asks}
 use Rattle.answer.specs.declared.Answer.{Answer}
 use Rattle.reason.specs.Reasons.{IsReason}
 
@@ -23,6 +22,4 @@ ReasonRefused R number room = Asks (Issued R number) 0 (ReasonShort R number roo
 
 -- the reason of the statement of a number
 abbrev pub TextReason : (text : List ℕ) → (number : ℕ) → List ℕ → Answer → List ℕ → Type 0
-TextReason text number room a after =
-    Promised (TextRefuses text (λ R. ReasonRefused R number room))
-    (λ n after. (R : Register) × Accepts text R × ReasonIn R number room n after) room a after
+TextReason text number room = OnText text (λ R. ReasonRefused R number room) (λ R. ReasonIn R number room) room

@@ -9,12 +9,11 @@ use lib.ListN.{length}
 use Rattle.game.specs.Book.{Book}
 use Rattle.answer.specs.declared.Refusal.{Refusal}
 use Rattle.answer.specs.declared.Refusal.the-variants.{Sheet}
-use Rattle.answer.specs.Answer.{Written, Begins, Short, Promised}
+use Rattle.answer.specs.Answer.{Written, Begins, Short}
 use Rattle.answer.specs.declared.Answer.{Answer}
 use Rattle.sheet.specs.Sheet.{IsSheet, codes, total, bytesFor, SoundSheet}
-use Rattle.register.specs.Register.{book, Register}
-use Rattle.register.specs.Reads.{Accepts}
-use Rattle.promises.specs.OnText.{TextRefuses}
+use Rattle.register.specs.Register.{book}
+use Rattle.promises.specs.OnText.{OnText}
 
 -- Two rooms are lent, for the sheet and for the totals. They begin with the book's sheet, n bytes, and with its totals in the
 -- order of the codes; beyond that they are as found.
@@ -42,12 +41,8 @@ UpdatedIn B rooms n after = OldSheet B rooms × SheetIn B rooms n after
 
 -- a fresh sheet
 abbrev pub TextSheet : (text : List ℕ) → List ℕ × List ℕ → Answer → List ℕ × List ℕ → Type 0
-TextSheet text rooms a after =
-    Promised (TextRefuses text (λ R. Short (SheetShort (book R) rooms)))
-    (λ n after. (R : Register) × Accepts text R × SheetIn (book R) rooms n after) rooms a after
+TextSheet text rooms = OnText text (λ R. Short (SheetShort (book R) rooms)) (λ R. SheetIn (book R) rooms) rooms
 
 -- the old sheet, updated
 abbrev pub TextSheetUpdate : (text : List ℕ) → List ℕ × List ℕ → Answer → List ℕ × List ℕ → Type 0
-TextSheetUpdate text rooms a after =
-    Promised (TextRefuses text (λ R. UpdateRefused (book R) rooms))
-    (λ n after. (R : Register) × Accepts text R × UpdatedIn (book R) rooms n after) rooms a after
+TextSheetUpdate text rooms = OnText text (λ R. UpdateRefused (book R) rooms) (λ R. UpdatedIn (book R) rooms) rooms

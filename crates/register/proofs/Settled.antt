@@ -15,9 +15,9 @@ use Rattle.register.specs.declared.StatementLine.{StatementLine}
 use Rattle.register.specs.declared.ObjectionLine.{ObjectionLine}
 use Rattle.register.specs.declared.Line.{Line}
 use Rattle.register.specs.declared.Line.the-variants.{Statement, Objection}
-use Rattle.answer.specs.declared.Refusal.{Refusal}
-use Rattle.answer.specs.declared.Refusal.the-variants.{Late, Statements, Issued, Objections, Unknown, Repeated, Spoiled, TooLong}
-use Rattle.answer.specs.declared.Refusal.the-variants.{Unended}
+use Rattle.register.specs.declared.TextFault.{TextFault}
+use Rattle.register.specs.declared.TextFault.the-variants.{Late, Statements, Issued, Objections, Unknown, Repeated}
+use Rattle.register.specs.declared.TextFault.the-variants.{Spoiled, TooLong, Unended}
 use Rattle.register.specs.Register.{Register, Issued as OnRegister, numbers, Has, objectorNumbers, targetNumbers, Valid}
 use Rattle.register.specs.Register.{written, bare, bytes}
 use Rattle.register.proofs.OneMore.{no-objections, with-statement, valid-statement, written-statement, with-objection}
@@ -139,7 +139,7 @@ has? R y x =
 
 -- Accepted, or refused.
 abbrev pub Settled : List ℕ → Type 0
-Settled s = ((R : Register) × Accepts s R) ⊎ ((r : Refusal) × Refuses s r)
+Settled s = ((R : Register) × Accepts s R) ⊎ ((r : TextFault) × Refuses s r)
 
 nil : (u : List ℕ) → u ++ [] ≡ u
 nil [] = refl

@@ -15,9 +15,9 @@ use Rattle.register.specs.declared.ObjectionLine.{ObjectionLine}
 use Rattle.register.specs.declared.Line.{Line}
 use Rattle.register.specs.declared.Line.the-variants.{Statement, Objection}
 use Rattle.register.proofs.Lines.{line-once, line-not-empty, line-ended}
-use Rattle.answer.specs.declared.Refusal.{Refusal}
-use Rattle.answer.specs.declared.Refusal.the-variants.{Late, Statements, Issued, Objections, Unknown, Repeated, Spoiled, TooLong}
-use Rattle.answer.specs.declared.Refusal.the-variants.{Unended, Room, Unequal, Mark, Place, Asked, Turns, Sheet}
+use Rattle.register.specs.declared.TextFault.{TextFault}
+use Rattle.register.specs.declared.TextFault.the-variants.{Late, Statements, Issued, Objections, Unknown, Repeated}
+use Rattle.register.specs.declared.TextFault.the-variants.{Spoiled, TooLong, Unended}
 use Rattle.register.specs.Register.{bytes, Register, Valid, Issued as OnRegister, lines, objectorNumbers, targetNumbers}
 use Rattle.register.specs.Register.{numbers, Has, written}
 use Rattle.register.specs.Reads.{NotEnded, FaultAt, Refuses, Accepts}
@@ -182,7 +182,7 @@ same-issued R R′ n m e f (i, h, g) =
     (i, omega (arith, ap length q), sym (ap (λ ns. getD ns i 0) q) ∙ g ∙ f)
 
 -- The rows that ask what the next line is, each with the refusal that it gives at line k.
-data Row (R : Register) (k : ℕ) : Line → Refusal → Type 0 where
+data Row (R : Register) (k : ℕ) : Line → TextFault → Type 0 where
   late : {st : StatementLine} → 0 < length (R .objections) → Row R k (Statement st) (Late k)
   many-statements : {st : StatementLine} → length (R .objections) ≡ 0 → 1024 ≤ length (R .statements)
       → Row R k (Statement st) (Statements k)
@@ -195,7 +195,7 @@ data Row (R : Register) (k : ℕ) : Line → Refusal → Type 0 where
       → Has R (o .objector) (o .target) → Row R k (Objection o) (Repeated k)
 
 -- one row applies at most
-row-once : {R : Register} {k : ℕ} {l : Line} {r r′ : Refusal} → Row R k l r → Row R k l r′ → r ≡ r′
+row-once : {R : Register} {k : ℕ} {l : Line} {r r′ : TextFault} → Row R k l r → Row R k l r′ → r ≡ r′
 row-once (late a) (late b) = refl
 row-once (late a) (many-statements b c) = absurd (omega arith)
 row-once (late a) (issued b c d) = absurd (omega arith)
@@ -271,7 +271,7 @@ module _ (R R′ : Register) (o : ObjectionLine) (more : List Line) (e : lines R
       v .distinct j (length (R .objections)) h more-objections (kept (λ p. p .objector) j h ∙ a ∙ sym (next (λ p. p .objector)))
       (kept (λ p. p .target) j h ∙ b ∙ sym (next (λ p. p .target)))
 
-no-row : (R R′ : Register) (l : Line) (more : List Line) (k : ℕ) (r : Refusal) → Valid R′ → lines R′ ≡ lines R ++ (l ∷ more)
+no-row : (R R′ : Register) (l : Line) (more : List Line) (k : ℕ) (r : TextFault) → Valid R′ → lines R′ ≡ lines R ++ (l ∷ more)
     → Row R k l r → ⊥
 no-row R R′ (Statement st) more k r v e (late h) = not-late R R′ st more e h
 no-row R R′ (Statement st) more k r v e (many-statements z h) = omega (arith, v .few-statements, more-statements R R′ st more e)
@@ -281,11 +281,11 @@ no-row R R′ (Objection o) more k r v e (unknown h n) = n (both-known R R′ o 
 no-row R R′ (Objection o) more k r v e (repeated h i j p) = not-repeated R R′ o more e v p
 
 -- What stops the reading at line k: no line, or a line to which a row applies.
-data Stop (R : Register) (rest : List ℕ) (k : ℕ) : Refusal → Type 0 where
+data Stop (R : Register) (rest : List ℕ) (k : ℕ) : TextFault → Type 0 where
   no-line : 0 < length rest → ((l : Line) → ¬ BeginsWith l rest) → Stop R rest k (Spoiled k)
-  by-row : {r : Refusal} (l : Line) → BeginsWith l rest → Row R k l r → Stop R rest k r
+  by-row : {r : TextFault} (l : Line) → BeginsWith l rest → Row R k l r → Stop R rest k r
 
-stop-once : {R : Register} {rest : List ℕ} {k : ℕ} {r r′ : Refusal} → Stop R rest k r → Stop R rest k r′ → r ≡ r′
+stop-once : {R : Register} {rest : List ℕ} {k : ℕ} {r r′ : TextFault} → Stop R rest k r → Stop R rest k r′ → r ≡ r′
 stop-once (no-line h f) (no-line i g) = refl
 stop-once (no-line h f) (by-row l b a) = absurd (f l b)
 stop-once (by-row l b a) (no-line h f) = absurd (f l b)
@@ -293,7 +293,7 @@ stop-once {R} {k = k} {r′ = r′} (by-row l (h, (t, e)) a) (by-row l′ (h′,
     row-once a (subst (λ m. Row R k m r′) (line-once l′ l t′ t h′ h (sym e′ ∙ e) .0) a′)
 
 -- reading does not stop where the text goes on with a line of a register within the limits
-no-stop : (R R′ : Register) (rest t : List ℕ) (l : Line) (more : List Line) (k : ℕ) (r : Refusal) → Valid R′
+no-stop : (R R′ : Register) (rest t : List ℕ) (l : Line) (more : List Line) (k : ℕ) (r : TextFault) → Valid R′
     → lines R′ ≡ lines R ++ (l ∷ more) → rest ≡ bytes (l ∷ more) ++ t → Stop R rest k r → ⊥
 unfolding bytes
 no-stop R R′ rest t l more k r v e f s = go s
@@ -304,7 +304,7 @@ no-stop R R′ rest t l more k r v e f s = go s
       (bytes more ++ t, f ∙ append-assoc (lineBytes l) (bytes more) t),
     )
 
-    go : {b : Refusal} → Stop R rest k b → ⊥
+    go : {b : TextFault} → Stop R rest k b → ⊥
     go (no-line h g) = g l next
     go {b} (by-row m (h, (u, d)) a) =
         no-row R R′ l more k b v e (subst (λ n. Row R k n b) (line-once m l u (next .1 .0) h (next .0) (sym d ∙ next .1 .1) .0) a)
@@ -315,15 +315,15 @@ unfolding bytes
 not-at-end l more t e =
     omega (arith, ap length (e ∙ append-assoc (lineBytes l) (bytes more) t), line-not-empty l (bytes more ++ t))
 
-stop-inside : {R : Register} {rest : List ℕ} {k : ℕ} {r : Refusal} → Stop R rest k r → 0 < length rest
+stop-inside : {R : Register} {rest : List ℕ} {k : ℕ} {r : TextFault} → Stop R rest k r → 0 < length rest
 stop-inside (no-line h f) = h
 stop-inside (by-row l (h, (t, e)) a) = omega (arith, ap length e, line-not-empty l t)
 
 -- Why a text is refused: the first two rows, or the line at which its reading stops.
-data Cause (s : List ℕ) : Refusal → Type 0 where
+data Cause (s : List ℕ) : TextFault → Type 0 where
   too-long : 65535 < length s → Cause s TooLong
   unended : length s ≤ 65535 → NotEnded s → Cause s Unended
-  stopped : {r : Refusal} (k : ℕ) → FaultAt s k (λ R rest. Stop R rest k r) → Cause s r
+  stopped : {r : TextFault} (k : ℕ) → FaultAt s k (λ R rest. Stop R rest k r) → Cause s r
 
 reached-as : {s : List ℕ} {k : ℕ} {F G : Register → List ℕ → Type 0} → ((R : Register) (rest : List ℕ) → F R rest → G R rest)
     → FaultAt s k F → FaultAt s k G
@@ -339,7 +339,7 @@ reached-as f p =
       fault = f (p .before) (p .rest) (p .fault);
     }
 
-cause : (s : List ℕ) (r : Refusal) → Refuses s r → Cause s r
+cause : (s : List ℕ) (r : TextFault) → Refuses s r → Cause s r
 cause s TooLong h = too-long h
 cause s Unended (h, n) = unended h n
 cause s (Spoiled k) p = stopped k (reached-as (λ R rest a. no-line (a .0) (a .1)) p)
@@ -352,16 +352,9 @@ cause s (Objections k) p = stopped k (reached-as (λ R rest a. by-row (Objection
 cause s (Unknown k) p = stopped k (reached-as (λ R rest a. by-row (Objection (a .0)) (a .1) (unknown (a .2 .0) (a .2 .1))) p)
 cause s (Repeated k) p =
     stopped k (reached-as (λ R rest a. by-row (Objection (a .0)) (a .1) (repeated (a .2 .0) (a .2 .1) (a .2 .2) (a .2 .3))) p)
-cause s Room p = absurd p
-cause s Unequal p = absurd p
-cause s (Mark k) p = absurd p
-cause s (Place k) p = absurd p
-cause s Asked p = absurd p
-cause s Turns p = absurd p
-cause s Sheet p = absurd p
 
 -- the reading stops at one line, for one reason
-stopped-once : (s : List ℕ) (k k′ : ℕ) (r r′ : Refusal) → FaultAt s k (λ R rest. Stop R rest k r)
+stopped-once : (s : List ℕ) (k k′ : ℕ) (r r′ : TextFault) → FaultAt s k (λ R rest. Stop R rest k r)
     → FaultAt s k′ (λ R rest. Stop R rest k′ r′) → r ≡ r′
 unfolding bytes
 stopped-once s k k′ r r′ p q =
@@ -410,27 +403,27 @@ accepts-once s R R′ a b =
     go (inl (l ∷ more, e, f)) = absurd (not-at-end l more [] f)
     go (inr (l, more, e, f)) = absurd (not-at-end l more [] f)
 
-pub not-both : (s : List ℕ) (R : Register) (r : Refusal) → Accepts s R → Refuses s r → ⊥
+pub not-both : (s : List ℕ) (R : Register) (r : TextFault) → Accepts s R → Refuses s r → ⊥
 unfolding bytes
 not-both s R r a p = by (cause s r p)
   where
-    at-end : (b : Refusal) (k : ℕ) (q : FaultAt s k (λ B rest. Stop B rest k b))
+    at-end : (b : TextFault) (k : ℕ) (q : FaultAt s k (λ B rest. Stop B rest k b))
         → GoesOn (lines (q .before)) (q .rest) (lines R) [] ⊎ GoesFurther (lines R) [] (lines (q .before)) (q .rest) → ⊥
     at-end b k q (inl ([], e, f)) = omega (arith, ap length f, stop-inside (q .fault))
     at-end b k q (inl (l ∷ more, e, f)) = no-stop (q .before) R (q .rest) [] l more k b (a .valid) e f (q .fault)
     at-end b k q (inr (l, more, e, f)) = not-at-end l more (q .rest) f
 
-    by : {b : Refusal} → Cause s b → ⊥
+    by : {b : TextFault} → Cause s b → ⊥
     by (too-long h) = omega (arith, a .fits)
     by (unended h n) = written-ended R (a .valid) (subst NotEnded (a .is-written) n)
     by {b} (stopped k q) =
         at-end b k q (one-goes-on (lines (q .before)) (lines R) (q .rest) [] (lines-formed (q .before) (q .valid))
         (lines-formed R (a .valid)) (sym (q .is-written) ∙ a .is-written ∙ sym (append-nil (written R))))
 
-pub refuses-once : (s : List ℕ) (r r′ : Refusal) → Refuses s r → Refuses s r′ → r ≡ r′
+pub refuses-once : (s : List ℕ) (r r′ : TextFault) → Refuses s r → Refuses s r′ → r ≡ r′
 refuses-once s r r′ p q = go (cause s r p) (cause s r′ q)
   where
-    go : {a b : Refusal} → Cause s a → Cause s b → a ≡ b
+    go : {a b : TextFault} → Cause s a → Cause s b → a ≡ b
     go (too-long h) (too-long i) = refl
     go (too-long h) (unended i n) = absurd (omega arith)
     go (too-long h) (stopped k p) = absurd (omega (arith, p .fits))

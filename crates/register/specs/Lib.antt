@@ -3,3 +3,4 @@ pub mod Number
 pub mod Reads
 pub mod Register
 pub mod Texts
+pub mod TextFaults

@@ -1,4 +1,4 @@
--- Which texts are registers, and which refusal the others get, with its line: 01's rows 1 to 9. A text is accepted exactly if
+-- Which texts are registers, and which fault the others have, with its line: 01's rows 1 to 9. A text is accepted exactly if
 -- it is the written form of a register within all limits. A refusal from the third row on says that the lines before the
 -- one at fault are such a register.
 use mathlib.Core.List.{List, _++_}
@@ -10,9 +10,9 @@ use Rattle.register.specs.declared.StatementLine.{StatementLine}
 use Rattle.register.specs.declared.ObjectionLine.{ObjectionLine}
 use Rattle.register.specs.declared.Line.{Line}
 use Rattle.register.specs.declared.Line.the-variants.{Statement, Objection}
-use Rattle.answer.specs.declared.Refusal.{Refusal}
-use Rattle.answer.specs.declared.Refusal.the-variants.{TooLong, Unended, Spoiled, Late, Statements, Issued, Objections, Unknown}
-use Rattle.answer.specs.declared.Refusal.the-variants.{Repeated, Room, Unequal, Mark, Place, Asked, Turns, Sheet}
+use Rattle.register.specs.declared.TextFault.{TextFault}
+use Rattle.register.specs.declared.TextFault.the-variants.{TooLong, Unended, Spoiled, Late, Statements, Issued, Objections}
+use Rattle.register.specs.declared.TextFault.the-variants.{Unknown, Repeated}
 use Rattle.register.specs.Register.{Register, Valid, written, Issued as OnRegister, Has}
 
 -- "At most 65,535 bytes, 1,024 statements, 4,096 objections."
@@ -44,7 +44,7 @@ abbrev pub NextObjection : List ℕ → (ObjectionLine → Type 0) → Type 0
 NextObjection rest Fault = (o : ObjectionLine) × BeginsWith (Objection o) rest × Fault o
 
 -- The rows of the table, in 01's order: "1, 2, then line by line; a statement line 3, 4, 6, 5; an objection line 3, 9, 7, 8".
-abbrev pub Refuses : List ℕ → Refusal → Type 0
+abbrev pub Refuses : List ℕ → TextFault → Type 0
 Refuses s TooLong = 65535 < length s
 Refuses s Unended = (length s ≤ 65535) × NotEnded s
 Refuses s (Spoiled k) = FaultAt s k (λ R rest. (0 < length rest) × ((l : Line) → ¬ BeginsWith l rest))
@@ -61,10 +61,3 @@ Refuses s (Unknown k) =
 Refuses s (Repeated k) =
     FaultAt s k (λ R rest. NextObjection rest
     (λ o. (length (R .objections) < 4096) × OnRegister R (o .objector) × OnRegister R (o .target) × Has R (o .objector) (o .target)))
-Refuses s Room = ⊥
-Refuses s Unequal = ⊥
-Refuses s (Mark k) = ⊥
-Refuses s (Place k) = ⊥
-Refuses s Asked = ⊥
-Refuses s Turns = ⊥
-Refuses s Sheet = ⊥

@@ -1,6 +1,6 @@
-// What a register text is: its lines, numbers and marks. No function stands here: specs/ says how a register is written, and
-// which texts are accepted or refused; proofs/ that every text is one or the other, once. Reading a text is left to
-// `register_read`.
+// What a register text is: its lines, numbers and marks, and what a text is refused for. No function stands here: specs/ says how
+// a register is written, and which texts are accepted or refused; proofs/ that every text is one or the other, once. Reading a
+// text is left to `register_read`.
 
 pub enum Mark {
     Read,
@@ -21,4 +21,17 @@ pub struct ObjectionLine {
 pub enum Line {
     Statement(StatementLine),
     Objection(ObjectionLine),
+}
+
+// What a text can be refused for: 01's numbers 1 to 9. A case holds its line; the first two have none.
+pub enum TextFault {
+    TooLong,
+    Unended,
+    Spoiled(u32),
+    Late(u32),
+    Issued(u32),
+    Statements(u32),
+    Unknown(u32),
+    Repeated(u32),
+    Objections(u32),
 }

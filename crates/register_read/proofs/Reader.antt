@@ -13,8 +13,8 @@ use Rattle.register.specs.declared.ObjectionLine.{ObjectionLine}
 use Rattle.register.specs.declared.Line.{Line}
 use Rattle.register.specs.declared.Line.the-variants.{Statement, Objection}
 use Rattle.register_line.specs.declared.Got.the-variants.{Good}
-use Rattle.answer.specs.declared.Refusal.{Refusal}
-use Rattle.answer.specs.declared.Refusal.the-variants.{Spoiled}
+use Rattle.register.specs.declared.TextFault.{TextFault}
+use Rattle.register.specs.declared.TextFault.the-variants.{Spoiled}
 use Rattle.register.specs.Register.{Register, Valid, written, bytes, bare, Issued as OnRegister}
 use Rattle.register_read.specs.ReadState.{Holds, ReadsTo, StatementTaken, ObjectionTaken}
 use Rattle.register_read.specs.declared.Reading.the-variants.{Whole}
@@ -101,7 +101,7 @@ module _ (s : List ℕ) (at n m : ℕ) (nums marks objectors targets : List ℕ)
       begun : BeginsWith (Statement st) (drop at s)
       begun = (got .0, (drop next s, got .3))
 
-      pub statement-fault : (r : Refusal) (nums′ marks′ : List ℕ)
+      pub statement-fault : (r : TextFault) (nums′ marks′ : List ℕ)
           → StatementTaken nums marks n m st (n + m + 1) nums′ marks′ (AtFault r) → Refuses s r
       statement-fault r nums′ marks′ (inl (l, e)) =
           subst (Refuses s) (sym e) (reached _ (st, begun, omega (arith, v .holds .objections)))
@@ -122,7 +122,7 @@ module _ (s : List ℕ) (at n m : ℕ) (nums marks objectors targets : List ℕ)
       begun′ : BeginsWith (Objection o) (drop at s)
       begun′ = (got .0, (drop next s, got .3))
 
-      pub objection-fault : (r : Refusal) (objectors′ targets′ : List ℕ)
+      pub objection-fault : (r : TextFault) (objectors′ targets′ : List ℕ)
           → ObjectionTaken nums objectors targets n m o (n + m + 1) objectors′ targets′ (AtFault r) → Refuses s r
       objection-fault r objectors′ targets′ (inl (l, e)) =
           subst (Refuses s) (sym e) (reached _ (o, begun′, omega (arith, v .holds .objections)))

@@ -8,7 +8,7 @@ use Rattle.register_index.specs.Indexed.{Indexed}
 use Rattle.register.specs.Lines.{markNumber}
 use Rattle.register.specs.declared.StatementLine.{StatementLine}
 use Rattle.register.specs.declared.ObjectionLine.{ObjectionLine}
-use Rattle.answer.specs.declared.Refusal.the-variants.{Late, Statements, Issued, Objections, Unknown, Repeated}
+use Rattle.register.specs.declared.TextFault.the-variants.{Late, Statements, Issued, Objections, Unknown, Repeated}
 use Rattle.register.specs.Register.{Register, numbers, marksOf, objectorsOf, targetsOf, Valid}
 use Rattle.register_read.specs.declared.Reading.{Reading}
 use Rattle.register_read.specs.declared.Reading.the-variants.{Whole, Refused}

@@ -1,9 +1,9 @@
 // The register text: read line by line into lent rooms, or refused with 01's number and line. What is accepted and what is
 // refused, `register` says; what a line is, is left to `register_line`, and labels to others.
-use answer::Refusal;
 use register::Line;
 use register::ObjectionLine;
 use register::StatementLine;
+use register::TextFault;
 use register_line::Got;
 ghost use mathlib.Core.Bool.{true, false};
 ghost use mathlib.Core.Path.{_≡_};
@@ -19,12 +19,12 @@ ghost use Rattle.register_read.specs.ReadState.{StatementTaken, InStep, 
 // The number of statements and of objections, now in the rooms.
 pub enum Reading {
     Whole(usize, usize),
-    Refused(Refusal),
+    Refused(TextFault),
 }
 
 pub enum Taken {
     Kept,
-    AtFault(Refusal),
+    AtFault(TextFault),
 }
 
 // Whether the text is empty or ends with byte 10.
@@ -57,14 +57,14 @@ fn take_statement(
         (now (marks .exit)) t × InStep (now (numbers .exit)) n (now (links .exit)) t ⌝ }
 {
     if m > 0 {
-        return Taken::AtFault(Refusal::Late(line_no));
+        return Taken::AtFault(TextFault::Late(line_no));
     }
     if n >= 1024 {
-        return Taken::AtFault(Refusal::Statements(line_no));
+        return Taken::AtFault(TextFault::Statements(line_no));
     }
     let number = statement.number;
     if register_index::look_up(numbers, n, links, number) < n {
-        return Taken::AtFault(Refusal::Issued(line_no));
+        return Taken::AtFault(TextFault::Issued(line_no));
     }
     let mark = statement.mark;
     register_index::enter(numbers, n, links, number);
@@ -91,21 +91,21 @@ fn take_objection(
         × (t ≡ Kept → Entered n (m + 1) (now (objectors .exit)) (now (targets .exit))) ⌝ }
 {
     if m >= 4096 {
-        return Taken::AtFault(Refusal::Objections(line_no));
+        return Taken::AtFault(TextFault::Objections(line_no));
     }
     let objector = objection.objector;
     let y = register_index::look_up(numbers, n, links, objector);
     if y >= n {
-        return Taken::AtFault(Refusal::Unknown(line_no));
+        return Taken::AtFault(TextFault::Unknown(line_no));
     }
     let target = objection.target;
     let x = register_index::look_up(numbers, n, links, target);
     if x >= n {
-        return Taken::AtFault(Refusal::Unknown(line_no));
+        return Taken::AtFault(TextFault::Unknown(line_no));
     }
     pair_repeat::begin(objectors, targets, n, m);
     if pair_repeat::pair_at(objectors, targets, n, m, y, x) < m {
-        return Taken::AtFault(Refusal::Repeated(line_no));
+        return Taken::AtFault(TextFault::Repeated(line_no));
     }
     pair_repeat::enter(objectors, targets, n, m, y, x);
     Taken::Kept
@@ -134,13 +134,13 @@ fn read_lines(
     while at < text.len() {
         let line_no = (n + m + 1) as u32;
         let Got::Good(line, next) = register_line::reader::line_from(text, at) else {
-            return Reading::Refused(Refusal::Spoiled(line_no));
+            return Reading::Refused(TextFault::Spoiled(line_no));
         };
         match line {
             Line::Statement(statement) => {
                 let taken = take_statement(numbers, marks, links, n, m, statement, line_no);
-                if let Taken::AtFault(refusal) = taken {
-                    return Reading::Refused(refusal);
+                if let Taken::AtFault(fault) = taken {
+                    return Reading::Refused(fault);
                 }
                 n += 1;
                 at = next;
@@ -157,8 +157,8 @@ fn read_lines(
                     objection,
                     line_no,
                 );
-                if let Taken::AtFault(refusal) = taken {
-                    return Reading::Refused(refusal);
+                if let Taken::AtFault(fault) = taken {
+                    return Reading::Refused(fault);
                 }
                 m += 1;
                 at = next;
@@ -182,11 +182,11 @@ pub fn read(
         (now (targets .exit)) r ⌝ }
 {
     if text.len() > 65535 {
-        return Reading::Refused(Refusal::TooLong);
+        return Reading::Refused(TextFault::TooLong);
     }
     if ended(text) {
         let mut links = [0u16; 8200];
         return read_lines(text, numbers, marks, objectors, targets, &mut links);
     }
-    Reading::Refused(Refusal::Unended)
+    Reading::Refused(TextFault::Unended)
 }

@@ -44,7 +44,7 @@ pub fn solve_text(
 {
     let reading = register_read::read(text, numbers, marks, objectors, targets);
     match reading {
-        Reading::Refused(refusal) => Reading::Refused(refusal),
+        Reading::Refused(fault) => Reading::Refused(fault),
         Reading::Whole(n, m) => {
             solve_rooms(marks, objectors, targets, n, m, labels, lengths);
             Reading::Whole(n, m)

@@ -3,7 +3,8 @@ use mathlib.Core.Path.{sym}
 use native.Mathlib.Omega.{arith}
 use Rattle.label_solve.proofs.RoomParts.{part-length}
 use Rattle.promises.specs.ArgumentCalls.{TextArgumentIn, TextArgumentRefused}
-use Rattle.promises.proofs.OnText.{text-promised}
+use Rattle.answer.proofs.Inputs.{on-promised}
+use Rattle.promises.proofs.OnText.{text-apart}
 use Rattle.register_solve.proofs.SolvedRooms.{few-listed, few-objections, rooms-ready}
 use borrow.Author.Needs.{needs}
 use Rattle.call_argument.proofs.argument_rooms.Statement.{statement}
@@ -74,7 +75,7 @@ returns c =
     let pre = c .before .before .before .before .before .before .before .before .before .before .before .before .before .before .before .pre in
     let write-argument = c .before .before .write-argument in
     let line = args .line .now in
-    λ s w. text-promised s (λ R. TextArgumentRefused R (args .number) line) (λ R. TextArgumentIn R (args .number) line) (w .0)
+    λ s w. on-promised (text-apart s) (λ R. TextArgumentRefused R (args .number) line) (λ R. TextArgumentIn R (args .number) line) (w .0)
     (w .1) line
     (write-argument .result) (write-argument .last .1 .1 .1 .1 .1 .1 .1 .0)
     (write-argument .ensures (w .0) (rooms-ready s (args .numbers .now) (args .marks .now) (args .objectors .now)

@@ -1,5 +1,5 @@
 -- `pairs_line` refuses in 01's order; what the solver leaves is handed on to `argument_find`.
-use mathlib.Core.Logic.{inl}
+use mathlib.Core.Logic.{inl, inr}
 use mathlib.Core.Path.{refl}
 use native.Mathlib.Omega.{arith}
 use Rattle.call_argument.proofs.PlaceGiven.{settled, line-few, line-short, line-given}
@@ -17,7 +17,7 @@ enum-known-checked : tie.Need-enum-known-checked
 enum-known-checked c = search needs
 
 returns : tie.Need-returns
-returns c = (inl (rw (c .before .checked .given .1) at (c .before .before .before .check .ensures)), refl)
+returns c = (inl (_, rw (c .before .checked .given .1) at (c .before .before .before .check .ensures), refl), refl)
 
 enum-told : tie.Need-enum-told
 enum-told c = search needs
@@ -30,8 +30,7 @@ returns-2 c =
     let args = c .before .before .before .before .before .before .before .before .before .args in
     let l : Lists (args .marks .now) (args .objectors .now) (args .targets .now) = rw (c .before .before .enum-told .given .1) at
     (c .before .before .before .before .check .ensures) in (
-      unlisted _ _ _ l _ _ (c .before .place .ensures) _ _
-          (c .if1 .taken),
+      inr (tt, l, unlisted (args .marks .now) _ _ (c .before .place .ensures) _ _ (c .if1 .taken)),
       refl,
     )
 
@@ -83,8 +82,8 @@ returns-3 c =
     line-short _ _ _ l _ _ (place .ensures) (if1 .left) _ _ _ (argument .ensures) (argument .kept .1 .1 .1 .1 .1 .1 .0)
     (c .if2 .taken)
 
-cast-t27 : tie.Need-cast-t27
-cast-t27 c =
+cast-t28 : tie.Need-cast-t28
+cast-t28 c =
     let args = c .before .before .before .before .before .before .before .before .before .before .before .before .before .before .before .before .before .before .before .before .before .args in
     let check = c .before .before .before .before .before .before .before .before .before .before .before .before .before .before .before .before .check in
     let enum-told = c .before .before .before .before .before .before .before .before .before .before .before .before .before .before .enum-told in
@@ -131,6 +130,6 @@ pairs-line-spec =
     argument-requires
     same-length
     returns-3
-    cast-t27
+    cast-t28
     same-length-2
     returns-4)

@@ -71,7 +71,7 @@ argument-rooms-requires c κs =
 returns : tie.Need-returns
 returns c =
     let solve-text = c .before .before .before .before .before .before .before .before .before .solve-text in
-    (inl (rw (c .before .reading .given .1) at (solve-text .ensures)), refl)
+    (inl (_, rw (c .before .reading .given .1) at (solve-text .ensures), refl), refl)
 
 same-length : tie.Need-same-length
 same-length c = search needs

@@ -5,7 +5,8 @@ use Rattle.label_solve.proofs.RoomParts.{part-length}
 use Rattle.register.specs.Register.{Issued}
 use Rattle.answer.specs.Answer.{Asks}
 use Rattle.promises.specs.ExerciseCalls.{TextExerciseIn}
-use Rattle.promises.proofs.OnText.{text-promised}
+use Rattle.answer.proofs.Inputs.{on-promised}
+use Rattle.promises.proofs.OnText.{text-apart}
 use Rattle.register_solve.proofs.SolvedRooms.{few, made}
 use Rattle.call_exercise.proofs.exercise_rooms.Statement.{statement}
 use Rattle.call_exercise.proofs.exercise_rooms.Tie as tie
@@ -66,7 +67,7 @@ ask-exercise-requires c κs =
 returns : tie.Need-returns
 returns c =
     let args = c .before .before .before .before .before .before .before .before .before .args in
-    λ s read. text-promised s (λ R. Asks (Issued R (args .number)) (args .turns) ⊥)
+    λ s read. on-promised (text-apart s) (λ R. Asks (Issued R (args .number)) (args .turns) ⊥)
     (λ R. TextExerciseIn R (args .number) (args .turns)) (read .0) (read .1) tt (c .ask-exercise .result) tt
     (c .ask-exercise .ensures (read .0) (made s (args .numbers .now) (args .marks .now) (args .objectors .now)
     (args .targets .now) (args .n) (args .m) read))

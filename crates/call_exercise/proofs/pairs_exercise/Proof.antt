@@ -1,5 +1,5 @@
 -- `pairs_exercise` refuses in 01's order, and else asks `exercise_ask`.
-use mathlib.Core.Logic.{inl}
+use mathlib.Core.Logic.{inl, inr}
 use mathlib.Core.Path.{refl}
 use Rattle.lists.specs.Refuses.{Lists}
 use Rattle.lists.proofs.Handed.{handed}
@@ -16,7 +16,7 @@ enum-known-checked : tie.Need-enum-known-checked
 enum-known-checked c = search needs
 
 returns : tie.Need-returns
-returns c = (inl (rw (c .before .checked .given .1) at (c .before .before .before .check .ensures)), refl)
+returns c = (inl (_, rw (c .before .checked .given .1) at (c .before .before .before .check .ensures), refl), refl)
 
 enum-told : tie.Need-enum-told
 enum-told c = search needs
@@ -29,8 +29,7 @@ returns-2 c =
     let args = c .before .before .before .before .before .before .before .before .args in
     let l : Lists (args .marks .now) (args .objectors .now) (args .targets .now) = rw (c .before .before .enum-told .given .1) at
     (c .before .before .before .before .check .ensures) in (
-      unlisted _ _ _ l _ _ (c .before .place .ensures) _ _
-          (c .if1 .taken),
+      inr (tt, l, unlisted (args .marks .now) _ _ (c .before .place .ensures) _ _ (c .if1 .taken)),
       refl,
     )
 
@@ -43,8 +42,12 @@ returns-3 c =
     let check = c .before .before .before .before .before .before .check in
     let l : Lists (args .marks .now) (args .objectors .now) (args .targets .now) = rw
     (c .before .before .before .before .enum-told .given .1) at (check .ensures) in (
-      too-many _ _ _ l _ _ (c .before .before .before .place .ensures) (c .before .before .if1 .left) _ _ _
-          (c .before .place2 .ensures) (c .if2 .taken),
+      inr (
+        tt,
+        l,
+        too-many _ _ _ l _ _ (c .before .before .before .place .ensures) (c .before .before .if1 .left) _ _ _
+            (c .before .place2 .ensures) (c .if2 .taken),
+      ),
       refl,
     )
 

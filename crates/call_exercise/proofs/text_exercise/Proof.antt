@@ -56,7 +56,7 @@ exercise-rooms-requires c κs =
 returns : tie.Need-returns
 returns c =
     let read = c .before .before .before .before .before .before .before .read in
-    (inl (rw (c .before .reading .given .1) at (read .ensures)), refl)
+    (inl (_, rw (c .before .reading .given .1) at (read .ensures), refl), refl)
 
 returns-2 : tie.Need-returns-2
 returns-2 c =

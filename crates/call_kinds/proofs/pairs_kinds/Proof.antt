@@ -15,18 +15,19 @@ enum-known-checked : tie.Need-enum-known-checked
 enum-known-checked c = search needs
 
 returns : tie.Need-returns
-returns c = (inl (rw (c .before .checked .given .1) at (c .before .before .before .check .ensures)), refl)
+returns c = (inl (_, rw (c .before .checked .given .1) at (c .before .before .before .check .ensures), refl), refl)
 
 enum-told : tie.Need-enum-told
 enum-told c = search needs
 
 returns-2 : tie.Need-returns-2
 returns-2 c =
-    (inr (rw (c .before .enum-told .given .1) at (c .before .before .before .check .ensures), (inl (c .if1 .taken), refl)), refl)
+    (inr (tt, rw (c .before .enum-told .given .1) at (c .before .before .before .check .ensures), (inl (c .if1 .taken), refl)), refl)
 
 returns-3 : tie.Need-returns-3
 returns-3 c = (
   inr (
+    tt,
     rw (c .before .before .enum-told .given .1) at (c .before .before .before .before .check .ensures),
     (inr (c .if2 .taken), refl),
   ),
@@ -72,8 +73,8 @@ write-kinds-requires c κs =
       ),
     )
 
-cast-t28 : tie.Need-cast-t28
-cast-t28 c =
+cast-t29 : tie.Need-cast-t29
+cast-t29 c =
     let args = c .before .before .before .before .before .before .before .before .before .before .before .before .before .before .before .before .before .before .before .before .before .before .before .before .args in
     let check = c .before .before .before .before .before .before .before .before .before .before .before .before .before .before .before .before .before .before .check in
     let enum-told = c .before .before .before .before .before .before .before .before .before .before .before .before .before .before .before .before .enum-told in
@@ -93,7 +94,7 @@ returns-4 c =
     let enum-told = c .before .before .before .before .before .before .before .before .before .before .before .before .before .before .before .before .enum-told in
     let write-kinds = c .before .before .before .before .write-kinds in
     let l : Lists (args .marks .now) (args .objectors .now) (args .targets .now) = rw (enum-told .given .1) at (check .ensures) in
-    (l, refl, write-kinds .ensures .0, write-kinds .ensures .1)
+    (tt, l, (refl, write-kinds .ensures .0, write-kinds .ensures .1))
 
 pub pairs-kinds-spec : {M : Type 1} → statement M
 pairs-kinds-spec =
@@ -111,7 +112,7 @@ pairs-kinds-spec =
     slice-aggregate-write-kinds
     slice-aggregate-write-kinds-2
     write-kinds-requires
-    cast-t28
+    cast-t29
     same-length
     same-length-2
     returns-4)

@@ -16,14 +16,14 @@ enum-known-checked : tie.Need-enum-known-checked
 enum-known-checked c = search needs
 
 returns : tie.Need-returns
-returns c = (inl (rw (c .before .checked .given .1) at (c .before .before .before .check .ensures)), refl)
+returns c = (inl (_, rw (c .before .checked .given .1) at (c .before .before .before .check .ensures), refl), refl)
 
 enum-told : tie.Need-enum-told
 enum-told c = search needs
 
 returns-2 : tie.Need-returns-2
 returns-2 c =
-    (inr ((rw (c .before .enum-told .given .1) at (c .before .before .before .check .ensures)), (c .if1 .taken, refl)), refl)
+    (inr (tt, rw (c .before .enum-told .given .1) at (c .before .before .before .check .ensures), (c .if1 .taken, refl)), refl)
 
 slice-aggregate-solve : tie.Need-slice-aggregate-solve
 slice-aggregate-solve c = search needs
@@ -36,8 +36,8 @@ solve-requires c κs =
     (c .before .before .before .enum-told .given .1) at (check .ensures) in
     (handed _ _ _ l, (c .before .before .if1 .left, l .few-marks))
 
-cast-t17 : tie.Need-cast-t17
-cast-t17 c =
+cast-t18 : tie.Need-cast-t18
+cast-t18 c =
     let args = c .before .before .before .before .before .before .before .before .before .before .before .before .before .before .args in
     let check = c .before .before .before .before .before .before .before .before .before .check in
     let enum-told = c .before .before .before .before .before .before .before .enum-told in
@@ -55,7 +55,7 @@ returns-3 c =
     let if1 = c .before .before .before .before .before .before .if1 in
     let solve = c .before .before .before .solve in
     let l : Lists (args .marks .now) (args .objectors .now) (args .targets .now) = rw (enum-told .given .1) at (check .ensures) in
-    (l, refl, labels-begin _ _ _ _ _ _ _ (solve .ensures) (if1 .left) (solve .kept .1 .1 .1 .0))
+    (tt, l, (refl, labels-begin _ _ _ _ _ _ _ (solve .ensures) (if1 .left) (solve .kept .1 .1 .1 .0)))
 
 pub pairs-labels-spec : {M : Type 1} → statement M
 pairs-labels-spec =
@@ -68,6 +68,6 @@ pairs-labels-spec =
     returns-2
     slice-aggregate-solve
     solve-requires
-    cast-t17
+    cast-t18
     same-length
     returns-3)

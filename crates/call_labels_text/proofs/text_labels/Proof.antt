@@ -2,6 +2,7 @@
 use mathlib.Core.Logic.{inl}
 use mathlib.Core.Path.{refl}
 use native.Mathlib.Omega.{arith}
+use Rattle.game.specs.Label.{labelNumber}
 use Rattle.register_solve.proofs.SolvedRooms.{few-listed}
 use Rattle.call_labels_text.proofs.TextSolved.{room-short, labels-given}
 use borrow.Author.Needs.{needs}
@@ -39,13 +40,11 @@ returns : tie.Need-returns
 returns c =
     let args = c .before .before .before .before .before .before .before .before .before .before .before .before .before .before .before .before .before .before .before .args in
     let solve-text = c .before .before .before .before .before .before .before .before .before .before .solve-text in
-    let reading2 = c .before .before .reading2 in (
-      room-short (args .text .now) (solve-text .last .1 .0) (solve-text .last .1 .1 .0) (solve-text .last .1 .1 .1 .0)
-          (solve-text .last .1 .1 .1 .1 .0) (solve-text .last .1 .1 .1 .1 .1 .0) (solve-text .last .1 .1 .1 .1 .1 .1 .0)
-          (reading2 .given .0 .0) (reading2 .given .0 .1 .0) (rw (reading2 .given .1) at (solve-text .ensures)) (args .room .now)
-          (c .if1 .taken),
-      refl,
-    )
+    let reading2 = c .before .before .reading2 in
+    room-short (args .text .now) (solve-text .last .1 .0) (solve-text .last .1 .1 .0) (solve-text .last .1 .1 .1 .0)
+    (solve-text .last .1 .1 .1 .1 .0) (solve-text .last .1 .1 .1 .1 .1 .0) (solve-text .last .1 .1 .1 .1 .1 .1 .0)
+    (reading2 .given .0 .0) (reading2 .given .0 .1 .0) (rw (reading2 .given .1) at (solve-text .ensures)) labelNumber (args .room .now)
+    (c .if1 .taken)
 
 slice-aggregate-copy-labels : tie.Need-slice-aggregate-copy-labels
 slice-aggregate-copy-labels c = search needs
@@ -66,8 +65,8 @@ copy-labels-requires c κs =
       c .before .before .if1 .left,
     )
 
-cast-t33 : tie.Need-cast-t33
-cast-t33 c =
+cast-t34 : tie.Need-cast-t34
+cast-t34 c =
     let args = c .before .before .before .before .before .before .before .before .before .before .before .before .before .before .before .before .before .before .before .before .before .before .before .before .args in
     let solve-text = c .before .before .before .before .before .before .before .before .before .before .before .before .before .before .before .solve-text in
     let reading2 = c .before .before .before .before .before .before .before .reading2 in
@@ -81,7 +80,7 @@ cast-t33 c =
 returns-2 : tie.Need-returns-2
 returns-2 c =
     let solve-text = c .before .before .before .before .before .before .before .before .before .solve-text in
-    (inl (rw (c .before .reading .given .1) at (solve-text .ensures)), refl)
+    (inl (_, rw (c .before .reading .given .1) at (solve-text .ensures), refl), refl)
 
 same-length : tie.Need-same-length
 same-length c = search needs
@@ -112,7 +111,7 @@ text-labels-spec =
     returns
     slice-aggregate-copy-labels
     copy-labels-requires
-    cast-t33
+    cast-t34
     returns-2
     same-length
     returns-3)

@@ -3,7 +3,8 @@ use mathlib.Core.Path.{sym}
 use native.Mathlib.Omega.{arith}
 use Rattle.answer.specs.Answer.{Short}
 use Rattle.promises.specs.ListingCalls.{ListingIn, ListingShort}
-use Rattle.promises.proofs.OnText.{text-promised}
+use Rattle.answer.proofs.Inputs.{on-promised}
+use Rattle.promises.proofs.OnText.{text-apart}
 use Rattle.register_solve.proofs.SolvedRooms.{few-listed, few-objections, rooms-ready}
 use Rattle.call_listing.proofs.ListingGiven.{rooms-bounded}
 use Rattle.label_solve.proofs.RoomParts.{part-length}
@@ -83,7 +84,7 @@ returns c =
     let pre = c .before .before .before .before .before .before .before .before .before .before .before .before .before .before .before .pre in
     let write-listing = c .before .before .write-listing in
     let room = args .room .now in
-    λ s w. text-promised s (λ R. Short (ListingShort room R)) (λ R. ListingIn R room) (w .0) (w .1) room (write-listing .result)
+    λ s w. on-promised (text-apart s) (λ R. Short (ListingShort room R)) (λ R. ListingIn R room) (w .0) (w .1) room (write-listing .result)
     (write-listing .last .1 .1 .1 .1 .1 .1 .0) (write-listing .ensures (w .0)
     (rooms-ready s (args .numbers .now) (args .marks .now) (args .objectors .now) (args .targets .now) (args .labels .now)
     (args .lengths .now) (args .n) (args .m) w (pre .1 .0 .0) (pre .1 .0 .1))

@@ -3,7 +3,8 @@ use mathlib.Core.Path.{sym}
 use native.Mathlib.Omega.{arith}
 use Rattle.label_solve.proofs.RoomParts.{part-length}
 use Rattle.promises.specs.ReasonCalls.{ReasonIn, ReasonRefused}
-use Rattle.promises.proofs.OnText.{text-promised}
+use Rattle.answer.proofs.Inputs.{on-promised}
+use Rattle.promises.proofs.OnText.{text-apart}
 use Rattle.register_solve.proofs.SolvedRooms.{few-listed, few-objections, rooms-ready}
 use borrow.Author.Needs.{needs}
 use Rattle.call_reason.proofs.reason_rooms.Statement.{statement}
@@ -74,7 +75,7 @@ returns c =
     let pre = c .before .before .before .before .before .before .before .before .before .before .before .before .before .before .before .pre in
     let write-reason = c .before .before .write-reason in
     let line = args .room .now in
-    λ s w. text-promised s (λ R. ReasonRefused R (args .number) line) (λ R. ReasonIn R (args .number) line) (w .0) (w .1) line
+    λ s w. on-promised (text-apart s) (λ R. ReasonRefused R (args .number) line) (λ R. ReasonIn R (args .number) line) (w .0) (w .1) line
     (write-reason .result) (write-reason .last .1 .1 .1 .1 .1 .1 .1 .0)
     (write-reason .ensures (w .0) (rooms-ready s (args .numbers .now) (args .marks .now) (args .objectors .now)
     (args .targets .now) (args .labels .now) (args .lengths .now) (args .n) (args .m) w (pre .1 .0 .0) (pre .1 .0 .1)))

@@ -6,7 +6,8 @@ use Prim.Native.Nat.{ℕ}
 use native.Mathlib.Omega.{arith}
 use Rattle.register.specs.Register.{book}
 use Rattle.answer.specs.Answer.{Short}
-use Rattle.promises.proofs.OnText.{text-promised}
+use Rattle.answer.proofs.Inputs.{on-promised}
+use Rattle.promises.proofs.OnText.{text-apart}
 use Rattle.promises.specs.SheetCalls.{SheetIn, SheetShort}
 use borrow.Author.Needs.{needs}
 use Rattle.call_sheet.proofs.text_sheet.Statement.{statement}
@@ -34,7 +35,7 @@ fresh-rooms-requires c κs =
     (whole .3, omega (arith, whole .3, label-text .kept .1 .0), (book (whole .0), whole .2))
 
 returns : tie.Need-returns
-returns c = (inl (rw (c .before .reading .given .1) at (c .before .before .before .before .label-text .ensures)), refl)
+returns c = (inl (_, rw (c .before .reading .given .1) at (c .before .before .before .before .label-text .ensures), refl), refl)
 
 same-length : tie.Need-same-length
 same-length c = search needs
@@ -50,7 +51,7 @@ returns-2 c =
     let reading2 = c .before .before .before .before .before .before .before .before .before .reading2 in
     let label-text = c .before .before .before .before .before .before .before .before .before .before .before .before .label-text in
     let whole = rw (reading2 .given .1) at (label-text .ensures) in
-    text-promised (args .text .now) (λ R. Short (SheetShort (book R) lent)) (λ R. SheetIn (book R) lent) (whole .0)
+    on-promised (text-apart (args .text .now)) (λ R. Short (SheetShort (book R) lent)) (λ R. SheetIn (book R) lent) (whole .0)
     (whole .1) lent (fresh-rooms .result) (fresh-rooms .last .1 .1 .0, fresh-rooms .last .1 .1 .1 .0)
     (fresh-rooms .ensures (book (whole .0)) (whole .2))
 

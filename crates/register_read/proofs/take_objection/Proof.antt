@@ -3,14 +3,14 @@ use mathlib.Core.Logic.{inl, inr}
 use mathlib.Core.Path.{_≡_, refl}
 use Prim.Native.Nat.{ℕ}
 use native.Mathlib.Omega.{arith}
-use Rattle.answer.specs.declared.Refusal.{Refusal}
+use Rattle.register.specs.declared.TextFault.{TextFault}
 use Rattle.register_read.specs.declared.Taken.the-variants.{Kept, AtFault}
 use borrow.Author.Needs.{needs}
 use Rattle.register_read.proofs.take_objection.Statement.{statement}
 use Rattle.register_read.proofs.take_objection.Tie as tie
 
 -- a line at fault is not kept
-not-kept : (r : Refusal) {A : Type 0} → AtFault r ≡ Kept → A
+not-kept : (r : TextFault) {A : Type 0} → AtFault r ≡ Kept → A
 not-kept r e = let z : _≡_ {A = ℕ} 0 1 = cc in absurd (omega arith)
 
 returns : tie.Need-returns

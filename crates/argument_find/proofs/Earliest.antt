@@ -6,9 +6,9 @@ use Prim.Native.Nat.{ℕ, _-_, _<_, _≤_}
 use native.Mathlib.Omega.{arith}
 use lib.ListN.{getD, length}
 use Rattle.game.specs.Label.{Least}
-use Rattle.pair_chain.specs.Chained.{Walk, Chained}
+use Rattle.pair_chain.specs.Linked.{Walk, Linked}
 use Rattle.argument_find.specs.ArgumentRoom.{ObjectsWith}
-use Rattle.pair_chain.proofs.ChainWalks.{walk-begins, walk-more, walk-entry, walk-ends}
+use Rattle.pair_chain.proofs.ChainWalks.{walk-map, walk-begins, walk-more, walk-entry, walk-ends}
 
 module _ (objectors targets labels lengths : List ℕ) (x label turns none : ℕ) where
   -- no place is earlier than `best` whose entry has been seen
@@ -19,52 +19,39 @@ module _ (objectors targets labels lengths : List ℕ) (x label turns none : ℕ
   -- the search has come to the link c; `best` is the earliest so far, or `none`
   pub record Search (best c : ℕ) : Type 0 where
     pub found : (best ≡ none) ⊎ ObjectsWith objectors targets labels lengths x label turns best
-    pub walk : Walk targets x (Later best) c
+    pub walk : Walk targets (length targets) x (Later best) c
 
-  module _ (paired : length targets ≡ length objectors) (head next : List ℕ) (ch : Chained targets (length targets) head next)
-    where
-      pub search-begins : (c : ℕ) → c ≡ getD head x 0 → Search none c
-      search-begins c p = record { found = inl refl; walk = walk-begins targets head next ch x (Later none) c p }
+  module _ (paired : length targets ≡ length objectors) where
+    module _ {n : ℕ} {begin link : ℕ → ℕ} (linked : Linked targets n (length targets) begin link) where
+      pub search-begins : x < n → {c : ℕ} → c ≡ begin x → Search none c
+      search-begins h p = record { found = inl refl; walk = walk-begins linked h p }
 
-      module _ (best c : ℕ) (s : Search best c) (n : c ≡ 0 → ⊥) (y : ℕ) (hy : y ≡ getD objectors (c - 1) 0) (d : ℕ)
-          (hd : d ≡ getD next (c - 1) 0) where
+      module _ {best c : ℕ} (s : Search best c) (on : c ≡ 0 → ⊥) {y : ℕ} (hy : y ≡ getD objectors (c - 1) 0) {d : ℕ}
+          (hd : d ≡ link (c - 1)) where
         -- an objector that is not one, or not earlier, is passed
         pub search-passes : (getD labels y 0 ≡ label → getD lengths y 0 ≡ turns → best ≤ y) → Search best d
-        search-passes f =
-            record { found = s .found; walk = walk-more targets head next ch x (Later best) c (s .walk) n d hd (rw hy at f) }
+        search-passes f = record { found = s .found; walk = walk-more linked (s .walk) on hd (rw hy at f) }
 
         -- an earlier one is kept
         pub search-keeps : getD labels y 0 ≡ label → getD lengths y 0 ≡ turns → y < best → Search y d
-        search-keeps a b l = record {
-          found =
-              inr (
-                (
-                  c - 1,
-                  rw paired at (walk-entry targets head next ch x (Later best) c (s .walk) n .0),
-                  walk-entry targets head next ch x (Later best) c (s .walk) n .1,
-                  sym hy,
-                ),
-                a,
-                b,
-              );
-          walk = walk-more targets head next ch x (Later y) c lower n d hd (λ p q. omega (arith, hy));
-        }
-          where
-            lower : Walk targets x (Later y) c
-            lower =
-                record { low = s .walk .low; of = s .walk .of; seen = λ e h o k p q. omega (arith, s .walk .seen e h o k p q, l) }
+        search-keeps a b l =
+            let (h, o) = walk-entry (s .walk) on in
+            record {
+              found = inr ((c - 1, rw paired at h, o, sym hy), a, b);
+              walk = walk-more linked (walk-map (λ e f p q. omega (arith, f p q, l)) (s .walk)) on hd (λ p q. omega (arith, hy));
+            }
 
-      pub search-ends : (best c : ℕ) → Search best c → c ≡ 0 → ((z : ℕ)
-          → ObjectsWith objectors targets labels lengths x label turns z
-          → z < none) → (z : ℕ) × ObjectsWith objectors targets labels lengths x label turns z
-          → Least (ObjectsWith objectors targets labels lengths x label turns) best
-      search-ends best c s z below (y, o) = (there (s .found), first)
-        where
-          first : (w : ℕ) → ObjectsWith objectors targets labels lengths x label turns w → best ≤ w
-          first w ((e, h, t, p), a, b) =
-              rw p at (walk-ends targets head next ch x (Later best) c (s .walk) z e (rw paired h) t (rw p a) (rw p b))
+    pub search-ends : {best c : ℕ} → Search best c → c ≡ 0 → ((z : ℕ)
+        → ObjectsWith objectors targets labels lengths x label turns z
+        → z < none) → (z : ℕ) × ObjectsWith objectors targets labels lengths x label turns z
+        → Least (ObjectsWith objectors targets labels lengths x label turns) best
+    search-ends {best} s z below (y, o) = (there (s .found), first)
+      where
+        first : (w : ℕ) → ObjectsWith objectors targets labels lengths x label turns w → best ≤ w
+        first w ((e, h, t, p), a, b) =
+            rw p at (walk-ends (s .walk) z e (rw paired h) t (rw p a) (rw p b))
 
-          there : (best ≡ none) ⊎ ObjectsWith objectors targets labels lengths x label turns best
-              → ObjectsWith objectors targets labels lengths x label turns best
-          there (inl q) = absurd (omega (arith, first y o, below y o))
-          there (inr q) = q
+        there : (best ≡ none) ⊎ ObjectsWith objectors targets labels lengths x label turns best
+            → ObjectsWith objectors targets labels lengths x label turns best
+        there (inl q) = absurd (omega (arith, first y o, below y o))
+        there (inr q) = q

@@ -11,7 +11,7 @@ ghost use lib.ListN.{length, drop};
 ghost use Rattle.game.specs.Book.{bookOf};
 ghost use Rattle.game.specs.Label.{Least};
 ghost use Rattle.game.specs.Argument.{Argument};
-ghost use Rattle.pair_chain.specs.Chained.{Chains};
+ghost use Rattle.pair_chain.specs.Linked.{Chains};
 ghost use Rattle.label_solve.specs.Labelled.{ListsLabelled};
 ghost use Rattle.argument_find.specs.ArgumentRoom.{Turns, ObjectsWith, ArgumentIn};
 

@@ -6,7 +6,7 @@ use Prim.Native.Nat.{ℕ, _+_, _*_, _<_}
 use lib.ListN.{length, getD}
 use Rattle.game.specs.Book.{Book}
 use Rattle.game.specs.Rules.{fallsWithin, standsWithin}
-use Rattle.pair_chain.specs.Chained.{Chains}
+use Rattle.pair_chain.specs.Linked.{Chains}
 use Rattle.lists.specs.Handed.{Handed}
 
 -- the lists are in order, and the objections chained by target

@@ -1,13 +1,13 @@
 -- What the linear-time solver prepares: the counts. And what it reads out of the lists.
 use mathlib.Core.Path.{sym, ap, _≡_, _∙_}
-use mathlib.Core.Logic.{⊎-elim, _⊎_}
+use mathlib.Core.Logic.{⊎-elim}
 use mathlib.Core.List.{List}
 use Prim.Native.Nat.{ℕ, _+_, _<_}
 use native.Mathlib.Omega.{arith}
 use lib.ListN.{length, getD, replicate, length-replicate, getD-replicate, set, length-set}
 use lib.Seq.{set-set, set-getD, getD-set-same}
 use Rattle.lists.specs.Handed.{Handed}
-use Rattle.pair_chain.proofs.ChainSteps.{stored}
+use Rattle.pair_chain.proofs.ChainSteps.{Stored, stored}
 use Rattle.label_queue.specs.Queue.{Counted, cnt}
 use Rattle.label_queue.proofs.Counts.{cnt-ones, cnt-other, cnt-flip}
 
@@ -40,12 +40,10 @@ counted-more marks targets left i x c hi hx hf = record {
     hd : i < length (c .done)
     hd = omega (arith, c .room)
 
-    dn : (e : ℕ) → ((e ≡ i) × (getD (set (c .done) i 0) e 0 ≡ 0))
-        ⊎ ((e ≡ i → ⊥) × (getD (set (c .done) i 0) e 0 ≡ getD (c .done) e 0))
+    dn : (e : ℕ) → Stored e i (getD (set (c .done) i 0) e 0) (getD (c .done) e 0) 0
     dn = stored (c .done) i 0 hd
 
-    lf : (w : ℕ) → ((w ≡ x) × (getD (set left x (getD left x 0 + 1)) w 0 ≡ getD left x 0 + 1))
-        ⊎ ((w ≡ x → ⊥) × (getD (set left x (getD left x 0 + 1)) w 0 ≡ getD left w 0))
+    lf : (w : ℕ) → Stored w x (getD (set left x (getD left x 0 + 1)) w 0) (getD left w 0) (getD left x 0 + 1)
     lf = stored left x (getD left x 0 + 1) hf
 
     below : (e : ℕ) → e < i + 1 → (e ≡ i → ⊥) → e < i

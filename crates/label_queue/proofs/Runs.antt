@@ -8,9 +8,10 @@ use native.Mathlib.Decide.{ℕ-discrete}
 use lib.Dec.{lit<}
 use lib.ListN.{length, getD, set, length-set}
 use lib.Seq.{getD-set-other, getD-set-same}
-use Rattle.pair_chain.specs.Chained.{Chained}
+use Rattle.pair_chain.specs.Linked.{Walk, Chains}
 use Rattle.lists.specs.Handed.{Handed}
 use Rattle.pair_chain.proofs.ChainSteps.{split}
+use Rattle.pair_chain.proofs.ChainWalks.{walk-begins, walk-entry, walk-more}
 use Rattle.label_queue.specs.LabelState.{Sound, Fells, Blank, Full}
 use Rattle.label_queue.specs.Queue.{Pending, Run, Owed, cnt, Counted, QueueAt}
 use Rattle.label_queue.proofs.LabelSteps.{zeros-set, back, kept, sound-stand, sound-fall, sound-blank, zeros-all}
@@ -142,7 +143,7 @@ module _ (marks objectors targets : List ℕ) (reg : Handed marks objectors targ
               (b .0 ∙ f .0, omega (arith, f .1))
 
   -- the objection e of the standing y is looked at: its target falls
-  module _ (head next : List ℕ) (ch : Chained objectors (length objectors) head next) (e : ℕ) (hc : e + 1 ≡ c)
+  module _ (head next : List ℕ) (ch : Chains marks objectors head next) (e : ℕ) (hc : e + 1 ≡ c)
       (he : e < length objectors) (ho : getD objectors e 0 ≡ y) where
     -- what is owed past the link, is owed past the next one, or is e
     owed-next : (d : ℕ) → Owed objectors queue s t y c d → (d ≡ e) ⊎ Owed objectors queue s t y (getD next e 0) d
@@ -150,10 +151,10 @@ module _ (marks objectors targets : List ℕ) (reg : Handed marks objectors targ
       where
         go : (getD objectors d 0 ≡ y) × (d + 1 ≤ c) → Dec (d ≡ e) → (d ≡ e) ⊎ Owed objectors queue s t y (getD next e 0) d
         go w (yes p) = inl p
-        go w (no p) = inr (inr (w .0, ch .next-last e d he (omega arith) (w .0 ∙ sym ho)))
+        go w (no p) = inr (inr (w .0, omega (arith, ch .chained .links e he .seen d (omega arith) (w .0 ∙ sym ho))))
 
     owed-wider : (d : ℕ) → Owed objectors queue s t y (getD next e 0) d → Owed objectors queue s t y c d
-    owed-wider d = ⊎-elim (λ p. inl p) (λ w. inr (w .0, omega (arith, ch .next-low e he)))
+    owed-wider d = ⊎-elim (λ p. inl p) (λ w. inr (w .0, omega (arith, ch .chained .links e he .low)))
 
     pub advance : getD labels y 0 ≡ 1 → Fells marks objectors targets labels lengths e
         → Run marks objectors targets lim s t y (getD next e 0) k labels lengths left queue
@@ -229,7 +230,7 @@ module _ (marks objectors targets : List ℕ) (reg : Handed marks objectors targ
           not-e : (d : ℕ) → Owed objectors queue s t y (getD next e 0) d → d ≡ e → ⊥
           not-e d o p =
               ⊎-elim (λ q. gone (rw (ap (λ (i : ℕ). getD objectors i 0) p ∙ ho) at q))
-              (λ w. omega (arith, ch .next-low e he, w .1)) o
+              (λ w. omega (arith, ch .chained .links e he .low, w .1)) o
 
           go-owed : (d : ℕ) → d < length objectors → getD (set (r .done) e 1) d 0 ≡ 0 → getD labels (getD objectors d 0) 0 ≡ 2
               → Dec (d ≡ e) → Owed objectors queue s t y (getD next e 0) d
@@ -258,7 +259,7 @@ module _ (marks objectors targets : List ℕ) (reg : Handed marks objectors targ
 
 -- the place at h of the queue is looked at
 module _ (marks objectors targets : List ℕ) (reg : Handed marks objectors targets) (lim h t y k : ℕ)
-    (labels lengths left queue head next : List ℕ) (ch : Chained objectors (length objectors) head next)
+    (labels lengths left queue head next : List ℕ) (ch : Chains marks objectors head next)
     (r : Run marks objectors targets lim h t y 0 k labels lengths left queue) (hh : h < t) where
   owed-pop : (e : ℕ) → e < length objectors → Owed objectors queue h t y 0 e
       → Owed objectors queue (h + 1) t (getD queue h 0) (getD head (getD queue h 0) 0) e
@@ -268,7 +269,7 @@ module _ (marks objectors targets : List ℕ) (reg : Handed marks objectors targ
           → Owed objectors queue (h + 1) t (getD queue h 0) (getD head (getD queue h 0) 0) e
       go p (yes q) =
           let a : getD objectors e 0 ≡ getD queue h 0 = sym (p .3) ∙ ap (λ (i : ℕ). getD queue i 0) q in
-          inr (a, ch .head-last (getD queue h 0) e he a)
+          inr (a, omega (arith, ch .chained .begins (getD queue h 0) (omega (arith, r .places h hh, ch .head-room)) .seen e he a))
       go p (no q) = inl (p .0, omega (arith, p .1), p .2, p .3)
 
   owed-back : (e : ℕ) → Owed objectors queue (h + 1) t (getD queue h 0) (getD head (getD queue h 0) 0) e
@@ -299,17 +300,17 @@ module _ (marks objectors targets : List ℕ) (reg : Handed marks objectors targ
     fells = λ e he l. ⊎-elim (λ f. inl f) (λ o. inr (owed-pop e he o)) (r .fells e he l);
   }
 
--- what is looked at: the place y at h of the queue, with its label v and a length one below k, at the link c of its chain
+-- what is looked at: the place y at h of the queue, with its label v and a length one below k, at the link c of its chain; what
+-- came of the objections passed is left to `Run`
 pub record Link (marks objectors : List ℕ) (h t y v c k : ℕ) (labels lengths queue : List ℕ) : Type 0 where
   pub place : y < length marks
   pub label : getD labels y 0 ≡ v
   pub len : getD lengths y 0 + 1 ≡ k
-  pub low : c ≤ length objectors
-  pub of : (e : ℕ) → e + 1 ≡ c → getD objectors e 0 ≡ y
+  pub walk : Walk objectors (length objectors) y (λ _. Unit {0}) c
   pub before-tail : h < t
   pub at : getD queue h 0 ≡ y
 
-module _ (marks objectors targets head next : List ℕ) (ch : Chained objectors (length objectors) head next) where
+module _ (marks objectors targets head next : List ℕ) (ch : Chains marks objectors head next) where
   pub link-first : (lim s h t y c k v : ℕ) (labels lengths left queue : List ℕ)
       → Run marks objectors targets lim s t y c k labels lengths left queue → h < t → getD labels (getD queue h 0) 0 ≡ v
       → Link marks objectors h t (getD queue h 0) v (getD head (getD queue h 0) 0) (getD lengths (getD queue h 0) 0 + 1) labels
@@ -318,75 +319,66 @@ module _ (marks objectors targets head next : List ℕ) (ch : Chained objectors 
     place = r .places h hh;
     label = l;
     len = refl;
-    low = ch .head-low (getD queue h 0);
-    of = λ e p. ch .head-of (getD queue h 0) e p;
+    walk = walk-begins (ch .chained) (omega (arith, r .places h hh, ch .head-room)) refl;
     before-tail = hh;
     at = refl;
   }
 
-module _ (marks objectors targets : List ℕ) (reg : Handed marks objectors targets) (head next : List ℕ)
-    (ch : Chained objectors (length objectors) head next) (lim h t y v c k : ℕ) (labels lengths left queue : List ℕ)
-    (r : Run marks objectors targets lim (h + 1) t y c k labels lengths left queue)
-    (ln : Link marks objectors h t y v c k labels lengths queue) (hc : c ≡ 0 → ⊥) where
-  here₁ : c - 1 < length objectors
-  here₁ = omega (arith, ln .low)
-
-  link-next₁ : Link marks objectors h t y v (getD next (c - 1) 0) k labels lengths queue
-  link-next₁ = record {
+module _ {marks objectors : List ℕ} {h t y v c k : ℕ} {labels lengths queue : List ℕ}
+    (ln : Link marks objectors h t y v c k labels lengths queue) where
+  link-next : {head next : List ℕ} → Chains marks objectors head next → (c ≡ 0 → ⊥)
+      → Link marks objectors h t y v (getD next (c - 1) 0) k labels lengths queue
+  link-next ch hc = record {
     place = ln .place;
     label = ln .label;
     len = ln .len;
     before-tail = ln .before-tail;
     at = ln .at;
-    low = omega (arith, ch .next-low (c - 1) here₁, ln .low);
-    of = λ e p. ch .next-of (c - 1) e here₁ p ∙ ln .of (c - 1) (omega arith);
+    walk = walk-more (ch .chained) (ln .walk) hc refl tt;
   }
 
-  gone₁ : Pending queue (h + 1) t y → ⊥
-  gone₁ p = omega (arith, p .1, r .unique (p .0) h (p .2) (ln .before-tail) (p .3 ∙ sym (ln .at)))
+  gone : {targets left : List ℕ} {lim s : ℕ} → Run marks objectors targets lim s t y c k labels lengths left queue → h < s
+      → Pending queue s t y → ⊥
+  gone r hs p = omega (arith, p .1, r .unique (p .0) h (p .2) (ln .before-tail) (p .3 ∙ sym (ln .at)))
 
-  link-push₁ : (x w : ℕ) → x < length labels → x < length lengths → t < length queue → getD labels x 0 ≡ 0 → 0 < v
+  link-push : (x w : ℕ) → x < length labels → x < length lengths → t < length queue → getD labels x 0 ≡ 0 → 0 < v
       → Link marks objectors h (t + 1) y v c k (set labels x w) (set lengths x k) (set queue t x)
-  link-push₁ x w hl hn hq z hv =
+  link-push x w hl hn hq z hv =
       let a = kept labels lengths x w k hl hn z y (omega (arith, ln .label)) in
       record {
         place = ln .place;
         label = a .0 ∙ ln .label;
         len = omega (arith, ln .len);
-        low = ln .low;
-        of = ln .of;
+        walk = ln .walk;
         before-tail = omega (arith, ln .before-tail);
         at = getD-set-other queue t h x 0 (λ (p : h ≡ t). omega (arith, ln .before-tail)) ∙ ln .at;
       }
 
-module _ (marks objectors targets : List ℕ) (reg : Handed marks objectors targets) (head next : List ℕ)
-    (ch : Chained objectors (length objectors) head next) (lim h t y v c k : ℕ) (labels lengths left queue : List ℕ)
+module _ {marks objectors targets : List ℕ} (reg : Handed marks objectors targets) {head next : List ℕ}
+    (ch : Chains marks objectors head next) {lim h t y v c k : ℕ} {labels lengths left queue : List ℕ}
     (r : Run marks objectors targets lim (h + 1) t y c k labels lengths left queue)
     (ln : Link marks objectors h t y v c k labels lengths queue) (hc : c ≡ 0 → ⊥) where
   here : c - 1 < length objectors
-  here = here₁ marks objectors targets reg head next ch lim h t y v c k labels lengths left queue r ln hc
+  here = walk-entry (ln .walk) hc .0
 
-  gone : Pending queue (h + 1) t y → ⊥
-  gone = gone₁ marks objectors targets reg head next ch lim h t y v c k labels lengths left queue r ln hc
+  objector : getD objectors (c - 1) 0 ≡ y
+  objector = walk-entry (ln .walk) hc .1
 
-  link-next : Link marks objectors h t y v (getD next (c - 1) 0) k labels lengths queue
-  link-next = link-next₁ marks objectors targets reg head next ch lim h t y v c k labels lengths left queue r ln hc
-
-  module _ (x : ℕ) (hx : getD targets (c - 1) 0 ≡ x) where
+  module _ {x : ℕ} (hx : getD targets (c - 1) 0 ≡ x) where
     -- what is labelled already, y standing
     pub fell-skip : v ≡ 1 → (getD labels x 0 ≡ 0 → ⊥) → Run marks objectors targets lim (h + 1) t y (getD next (c - 1) 0) k labels
         lengths left queue × Link marks objectors h t y v (getD next (c - 1) 0) k labels lengths queue
     fell-skip v1 n0 = (
       advance marks objectors targets reg lim (h + 1) t y c k labels lengths left queue r head next ch (c - 1) (omega arith)
-          here (ln .of (c - 1) (omega arith)) (ln .label ∙ v1) (go (ℕ-discrete (getD labels x 0) 1)),
-      link-next,
+          here objector (ln .label ∙ v1) (go (ℕ-discrete (getD labels x 0) 1)),
+      link-next ln ch hc,
     )
       where
         go : Dec (getD labels x 0 ≡ 1) → Fells marks objectors targets labels lengths (c - 1)
         go (yes p) =
             let b : getD labels (getD objectors (c - 1) 0) 0 ≡ 2 = r .sound .beaten (c - 1) here (rw hx p) .0 in
-            absurd (omega (arith, v1, ln .label, rw (ln .of (c - 1) (omega arith)) at b))
-        go (no p) = (rw hx l2, rw (hx, ln .of (c - 1) (omega arith)) (omega (arith, ln .len, r .low x place n0)))
+            absurd (omega (arith, v1, ln .label, rw objector at b))
+        go (no p) = (rw hx l2, rw (hx, objector) (omega (arith, ln .len, r .low x place n0)))
           where
             place : x < length marks
             place = rw hx at (reg .order .target (c - 1) here)
@@ -397,9 +389,6 @@ module _ (marks objectors targets : List ℕ) (reg : Handed marks objectors targ
     -- there is room in the queue for what is not labelled
     pub queue-room : x < length labels → length marks ≤ length queue → getD labels x 0 ≡ 0 → t < length queue
     queue-room hl hq z = omega (arith, r .full, zeros-set labels x 1 hl z (lit< tt))
-
-    objector : getD objectors (c - 1) 0 ≡ y
-    objector = ln .of (c - 1) (omega arith)
 
     -- there is an objection less to count
     pub left-some : 0 < getD left x 0
@@ -442,8 +431,9 @@ module _ (marks objectors targets : List ℕ) (reg : Handed marks objectors targ
           × Link marks objectors h t y v (getD next (c - 1) 0) k labels lengths queue
       lift-skip hf h3 = (
         flip marks objectors targets reg lim (h + 1) t y c k labels lengths left queue r head next ch (c - 1) (omega arith)
-            here objector x n hx hf hn′ (ln .label ∙ v2) (ln .len) gone hz,
-        link-next,
+            here objector x n hx hf hn′ (ln .label ∙ v2) (ln .len)
+            (gone ln r (omega arith)) hz,
+        link-next ln ch hc,
       )
         where
           hz : getD marks x 0 ≡ 0 → n ≡ 0 → getD labels x 0 ≡ 1
@@ -463,10 +453,9 @@ module _ (marks objectors targets : List ℕ) (reg : Handed marks objectors targ
           (set labels x 1) (set lengths x k) (set queue t x)
       lift-set hf hl hn hq n0 m z = (
         flip marks objectors targets reg lim (h + 1) (t + 1) y c k (set labels x 1) (set lengths x k) left (set queue t x) r1 head
-            next ch (c - 1) (omega arith) here objector x n hx hf hn′ (l1 .label ∙ v2) (l1 .len) gone1
+            next ch (c - 1) (omega arith) here objector x n hx hf hn′ (l1 .label ∙ v2) (l1 .len) (gone l1 r1 (omega arith))
             (λ _ _. getD-set-same labels x 1 0 hl),
-        link-next₁ marks objectors targets reg head next ch lim h (t + 1) y v c k (set labels x 1) (set lengths x k) left
-            (set queue t x) r1 l1 hc,
+        link-next l1 ch hc,
       )
         where
           ok : Sound marks objectors targets (set labels x 1) (set lengths x k)
@@ -480,14 +469,7 @@ module _ (marks objectors targets : List ℕ) (reg : Handed marks objectors targ
               (rw hx at (reg .order .target (c - 1) here)) hl hn hq z (lit< tt) (omega (arith, ln .before-tail)) ok
 
           l1 : Link marks objectors h (t + 1) y v c k (set labels x 1) (set lengths x k) (set queue t x)
-          l1 =
-              link-push₁ marks objectors targets reg head next ch lim h t y v c k labels lengths left queue r ln hc x 1 hl hn hq z
-              (omega arith)
-
-          gone1 : Pending (set queue t x) (h + 1) (t + 1) y → ⊥
-          gone1 =
-              gone₁ marks objectors targets reg head next ch lim h (t + 1) y v c k (set labels x 1) (set lengths x k) left
-              (set queue t x) r1 l1 hc
+          l1 = link-push ln x 1 hl hn hq z (omega arith)
 
     pub fell-set : v ≡ 1 → x < length labels → x < length lengths → t < length queue → getD labels x 0 ≡ 0
         → Run marks objectors targets lim (h + 1) (t + 1) y (getD next (c - 1) 0) k (set labels x 2) (set lengths x k) left
@@ -497,8 +479,7 @@ module _ (marks objectors targets : List ℕ) (reg : Handed marks objectors targ
       advance marks objectors targets reg lim (h + 1) (t + 1) y c k (set labels x 2) (set lengths x k) left (set queue t x) r1
           head next ch (c - 1) (omega arith) here objector (l1 .label ∙ v1)
           (rw hx (getD-set-same labels x 2 0 hl), rw (hx, objector) (omega (arith, getD-set-same lengths x k 0 hn, l1 .len))),
-      link-next₁ marks objectors targets reg head next ch lim h (t + 1) y v c k (set labels x 2) (set lengths x k) left
-          (set queue t x) r1 l1 hc,
+      link-next l1 ch hc,
     )
       where
         ok : Sound marks objectors targets (set labels x 2) (set lengths x k)
@@ -512,9 +493,7 @@ module _ (marks objectors targets : List ℕ) (reg : Handed marks objectors targ
             (rw hx at (reg .order .target (c - 1) here)) hl hn hq z (lit< tt) (omega (arith, ln .before-tail)) ok
 
         l1 : Link marks objectors h (t + 1) y v c k (set labels x 2) (set lengths x k) (set queue t x)
-        l1 =
-            link-push₁ marks objectors targets reg head next ch lim h t y v c k labels lengths left queue r ln hc x 2 hl hn hq z
-            (omega arith)
+        l1 = link-push ln x 2 hl hn hq z (omega arith)
 
 -- before the queue is begun
 pub run-blank : (marks objectors targets : List ℕ) → Handed marks objectors targets → (labels lengths left queue : List ℕ)
@@ -604,7 +583,7 @@ finish marks objectors targets reg h t labels lengths left queue turn ht = recor
 
 -- the place at h is taken up, under the names that the code has for it and for its first link
 pub enter : (marks objectors targets : List ℕ) → Handed marks objectors targets
-    → (lim h t y₀ k₀ v y c : ℕ) (labels lengths left queue head next : List ℕ) → Chained objectors (length objectors) head next
+    → (lim h t y₀ k₀ v y c : ℕ) (labels lengths left queue head next : List ℕ) → Chains marks objectors head next
     → Run marks objectors targets lim h t y₀ 0 k₀ labels lengths left queue → h < t → getD labels (getD queue h 0) 0 ≡ v
     → y ≡ getD queue h 0 → c ≡ getD head y 0 → Run marks objectors targets lim (h + 1) t y c (getD lengths y 0 + 1) labels lengths
     left queue × Link marks objectors h t y v c (getD lengths y 0 + 1) labels lengths queue

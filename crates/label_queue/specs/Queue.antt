@@ -68,9 +68,7 @@ pub record QueueAt (marks objectors targets : List ℕ) (h t : ℕ) (labels leng
   pub k : ℕ
   pub run : Run marks objectors targets (length marks) h t y 0 k labels lengths left queue
 
--- the work rooms are large enough
-pub record Spaces (marks objectors head next left queue : List ℕ) : Type 0 where
-  pub head-room : length marks ≤ length head
-  pub next-room : length objectors ≤ length next
+-- the rooms for the counts and for the queue are large enough
+pub record Spaces (marks left queue : List ℕ) : Type 0 where
   pub left-room : length marks ≤ length left
   pub queue-room : length marks ≤ length queue

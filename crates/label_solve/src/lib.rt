@@ -12,7 +12,7 @@ use pair_chain::wide;
 ghost use Prim.Native.Nat.{_≤_};
 ghost use lib.ListN.{length};
 ghost use Rattle.game.specs.Book.{bookOf};
-ghost use Rattle.pair_chain.specs.Chained.{Chained};
+ghost use Rattle.pair_chain.specs.Linked.{Chains};
 ghost use Rattle.lists.specs.Handed.{Handed};
 ghost use Rattle.label_queue.specs.LabelState.{Rooms};
 ghost use Rattle.label_queue.specs.Queue.{Spaces, QueueAt};
@@ -33,8 +33,8 @@ fn run(
 )
     requires { ⌜ Handed (now marks) (now objectors) (now targets) ⌝ }
     requires { ⌜ Rooms (now marks) (now labels) (now lengths) ⌝ }
-    requires { ⌜ Spaces (now marks) (now objectors) (now head) (now next) (now left) (now queue) ⌝ }
-    requires { ⌜ Chained (now objectors) (length (now objectors)) (now head) (now next) ⌝ }
+    requires { ⌜ Spaces (now marks) (now left) (now queue) ⌝ }
+    requires { ⌜ Chains (now marks) (now objectors) (now head) (now next) ⌝ }
     requires { ⌜ QueueAt (now marks) (now objectors) (now targets) 0 tail (now labels) (now lengths) (now left) (now queue) ⌝ }
     ensures { λ _. ⌜ Labelled (bookOf (now (marks .entry)) (now (objectors .entry)) (now (targets .entry))) (now (labels .exit))
         (now (lengths .exit)) ⌝ }

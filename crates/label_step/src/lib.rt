@@ -4,8 +4,8 @@ use pair_chain::place;
 use pair_chain::wide;
 ghost use mathlib.Core.Path.{_≡_};
 ghost use Prim.Native.Nat.{_<_, _+_};
-ghost use lib.ListN.{length, getD};
-ghost use Rattle.pair_chain.specs.Chained.{Chained};
+ghost use lib.ListN.{getD};
+ghost use Rattle.pair_chain.specs.Linked.{Chains};
 ghost use Rattle.lists.specs.Handed.{Handed};
 ghost use Rattle.label_queue.specs.LabelState.{Rooms};
 ghost use Rattle.label_queue.specs.Queue.{Spaces, QueueAt};
@@ -26,8 +26,8 @@ pub fn fell_targets(
 ) -> usize
     requires { ⌜ Handed (now marks) (now objectors) (now targets) ⌝ }
     requires { ⌜ Rooms (now marks) (now labels) (now lengths) ⌝ }
-    requires { ⌜ Spaces (now marks) (now objectors) (now head) (now next) (now left) (now queue) ⌝ }
-    requires { ⌜ Chained (now objectors) (length (now objectors)) (now head) (now next) ⌝ }
+    requires { ⌜ Spaces (now marks) (now left) (now queue) ⌝ }
+    requires { ⌜ Chains (now marks) (now objectors) (now head) (now next) ⌝ }
     requires { ⌜ QueueAt (now marks) (now objectors) (now targets) h tail (now labels) (now lengths) (now left) (now queue)
         × (h < tail) × (getD (now labels) (getD (now queue) h 0) 0 ≡ 1) ⌝ }
     ensures { λ r. ⌜ QueueAt (now (marks .entry)) (now (objectors .entry)) (now (targets .entry)) (h + 1) r (now (labels .exit))
@@ -68,8 +68,8 @@ pub fn stand_targets(
 ) -> usize
     requires { ⌜ Handed (now marks) (now objectors) (now targets) ⌝ }
     requires { ⌜ Rooms (now marks) (now labels) (now lengths) ⌝ }
-    requires { ⌜ Spaces (now marks) (now objectors) (now head) (now next) (now left) (now queue) ⌝ }
-    requires { ⌜ Chained (now objectors) (length (now objectors)) (now head) (now next) ⌝ }
+    requires { ⌜ Spaces (now marks) (now left) (now queue) ⌝ }
+    requires { ⌜ Chains (now marks) (now objectors) (now head) (now next) ⌝ }
     requires { ⌜ QueueAt (now marks) (now objectors) (now targets) h tail (now labels) (now lengths) (now left) (now queue)
         × (h < tail) × (getD (now labels) (getD (now queue) h 0) 0 ≡ 2) ⌝ }
     ensures { λ r. ⌜ QueueAt (now (marks .entry)) (now (objectors .entry)) (now (targets .entry)) (h + 1) r (now (labels .exit))

@@ -8,7 +8,7 @@ ghost use Prim.Native.Nat.{_≤_, _+_};
 ghost use lib.Dec.{eqb};
 ghost use lib.ListN.{length};
 ghost use Rattle.register_index.specs.Indexed.{Indexed};
-ghost use Rattle.pair_words.specs.Linked.{objectorsIn, targetsIn};
+ghost use Rattle.pair_words.specs.Words.{objectorsIn, targetsIn};
 ghost use Rattle.pair_repeat.specs.Entered.{Entered};
 ghost use Rattle.mend_line.specs.SettledRooms.{StatementSettled, ObjectionSettled};
 

@@ -15,7 +15,7 @@ ghost use Rattle.register_read.specs.ReadState.{Holds};
 ghost use Rattle.mend.specs.TextLines.{TextLine, LinesOf};
 ghost use Rattle.mend.specs.Mended.{movedIf};
 ghost use Rattle.mend_line.specs.SettledRooms.{Stated};
-ghost use Rattle.pair_words.specs.Linked.{objectorsIn, targetsIn};
+ghost use Rattle.pair_words.specs.Words.{objectorsIn, targetsIn};
 ghost use Rattle.pair_repeat.specs.Entered.{Entered};
 ghost use Rattle.mend_text.specs.Passes.{NextEnd, AnyLineAt, StatementPassed, StatementRooms, StatementsSettled};
 ghost use Rattle.mend_text.specs.Passes.{ObjectionRooms, ObjectionPassed, ObjectionsSettled, TextSettled};

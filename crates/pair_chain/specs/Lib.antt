@@ -1,1 +1,1 @@
-pub mod Chained
+pub mod Linked

@@ -3,7 +3,7 @@
 ghost use mathlib.Core.Path.{_≡_};
 ghost use Prim.Native.Nat.{_≤_, ℕ, _<_};
 ghost use lib.ListN.{length, getD};
-ghost use Rattle.pair_chain.specs.Chained.{Chained};
+ghost use Rattle.pair_chain.specs.Linked.{Linked};
 
 pub fn wide(x: u16) -> usize
     ensures { λ r. ⌜ r ≡ x ⌝ }
@@ -23,7 +23,8 @@ pub fn chain(places: &[u32], head: &mut [u16], next: &mut [u16])
     requires { ⌜ (length (now places) ≤ 4096) × (length (now places) ≤ length (now next)) × (length (now head) ≤ 1024) ⌝ }
     requires { ⌜ ((e : ℕ) → e < length (now places) → getD (now places) e 0 < length (now head)) ⌝ }
     requires { ⌜ ((x : ℕ) → getD (now head) x 0 ≡ 0) ⌝ }
-    ensures { λ _. ⌜ Chained (now (places .entry)) (length (now (places .entry))) (now (head .exit)) (now (next .exit)) ⌝ }
+    ensures { λ _. ⌜ Linked (now (places .entry)) (length (now (head .exit))) (length (now (places .entry)))
+        (λ x. getD (now (head .exit)) x 0) (λ e. getD (now (next .exit)) e 0) ⌝ }
 {
     let mut e = 0;
     // The entries before e are chained by the place that each names.

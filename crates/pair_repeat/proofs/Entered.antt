@@ -7,13 +7,13 @@ use native.Mathlib.Decide.{ℕ-discrete}
 use native.Mathlib.Omega.{arith}
 use lib.ListN.{length, replicate, length-replicate, set, getD}
 use lib.Seq.{getD-set-other, getD-set-same}
-use Rattle.pair_chain.proofs.ChainSteps.{all-zero}
-use Rattle.pair_words.specs.Linked.{beginAgainst, beginBy, withBegins, objectorsIn, linkBy, targetsIn, linkAgainst, high}
-use Rattle.pair_words.specs.Linked.{withPair, withLinkBy, Linked}
+use Rattle.pair_chain.specs.Linked.{Linked}
+use Rattle.pair_chain.proofs.ChainSteps.{Stored, all-zero, linked-none, linked-same, linked-more}
+use Rattle.pair_words.specs.Words.{beginAgainst, beginBy, withBegins, objectorsIn, linkBy, targetsIn, linkAgainst, high}
+use Rattle.pair_words.specs.Words.{withPair, withLinkBy}
 use Rattle.pair_words.proofs.Views.{begins-against, begins-by, link-length, pair-objectors, pair-targets, objectors-length}
-use Rattle.pair_words.proofs.Views.{Stored, link-by, begins-link, link-link, targets-length, link-against, pair-link, pair-length}
+use Rattle.pair_words.proofs.Views.{link-by, begins-link, link-link, targets-length, link-against, pair-link, pair-length}
 use Rattle.pair_words.proofs.Views.{begins-length}
-use Rattle.pair_words.proofs.LinkSteps.{linked-none, linked-more}
 use Rattle.lists.specs.Refuses.{Same}
 use Rattle.pair_repeat.specs.Entered.{Entered}
 
@@ -32,8 +32,8 @@ chains-none n pairs links few a b none = record {
   few = few;
   pairs-room = a;
   links-room = b;
-  by = linked-none (objectorsIn pairs) n (beginBy links) (linkBy links) (λ v h. none v h .1);
-  against = linked-none (targetsIn pairs) n (beginAgainst links) (linkAgainst pairs) (λ v h. none v h .0);
+  by = linked-none (λ v h. none v h .1);
+  against = linked-none (λ v h. none v h .0);
   once = λ i e h k. absurd (omega arith);
 }
 
@@ -70,7 +70,7 @@ module _ (n m : ℕ) (pairs links : List ℕ) (chains : Entered n m pairs links)
   low-x = omega (arith, chains .few)
 
   pub earlier : (beginAgainst links x < 4096) × (beginBy links y < 4096)
-  earlier = (omega (arith, chains .against .begins x target .earlier), omega (arith, chains .by .begins y objector .earlier))
+  earlier = (omega (arith, chains .against .begins x target .low), omega (arith, chains .by .begins y objector .low))
 
   words : 3072 ≤ length linked
   words = omega (arith, chains .links-room, link-length links m (beginBy links y) left (earlier .1) (chains .links-room))
@@ -84,8 +84,8 @@ module _ (n m : ℕ) (pairs links : List ℕ) (chains : Entered n m pairs links)
   -- chained by objector, and by target
   chained-by : Linked objectors n (m + 1) (beginBy links′) (linkBy links′)
   chained-by =
-      linked-more (objectorsIn pairs) n m y (beginBy links) (linkBy links) (beginBy links′) (linkBy links′) (chains .by)
-      (omega (arith, objectors-length pairs, chains .pairs-room)) objector begun put
+      linked-more (linked-same (λ i h. getD-set-other (objectorsIn pairs) m i y 0 (λ p. omega arith)) (chains .by)) objector
+      (getD-set-same (objectorsIn pairs) m y 0 (omega (arith, objectors-length pairs, chains .pairs-room))) begun put
     where
       begun : (u : ℕ) → u < n → Stored u y (beginBy links′ u) (beginBy links u) (m + 1)
       begun u h =
@@ -98,8 +98,8 @@ module _ (n m : ℕ) (pairs links : List ℕ) (chains : Entered n m pairs links)
 
   chained-against : Linked targets n (m + 1) (beginAgainst links′) (linkAgainst pairs′)
   chained-against =
-      linked-more (targetsIn pairs) n m x (beginAgainst links) (linkAgainst pairs) (beginAgainst links′) (linkAgainst pairs′)
-      (chains .against) (omega (arith, targets-length pairs, chains .pairs-room)) target begun put
+      linked-more (linked-same (λ i h. getD-set-other (targetsIn pairs) m i x 0 (λ p. omega arith)) (chains .against)) target
+      (getD-set-same (targetsIn pairs) m x 0 (omega (arith, targets-length pairs, chains .pairs-room))) begun put
     where
       begun : (u : ℕ) → u < n → Stored u x (beginAgainst links′ u) (beginAgainst links u) (m + 1)
       begun u h =

@@ -1,10 +1,11 @@
--- Objections in two linked rooms, none of them twice, and how far a walk along a chain has come. For the code that looks for
+-- Objections in two linked rooms, none of them twice, and two walks side by side along their chains. For the code that looks for
 -- repeats, not for callers of the product.
 use mathlib.Core.List.{List}
 use mathlib.Core.Path.{_≡_}
-use Prim.Native.Nat.{ℕ, _+_, _≤_, _<_}
+use Prim.Native.Nat.{ℕ, _≤_, _<_}
 use lib.ListN.{length, getD}
-use Rattle.pair_words.specs.Linked.{Linked, objectorsIn, beginBy, linkBy, targetsIn, beginAgainst, linkAgainst}
+use Rattle.pair_chain.specs.Linked.{Walk, Linked}
+use Rattle.pair_words.specs.Words.{objectorsIn, beginBy, linkBy, targetsIn, beginAgainst, linkAgainst}
 use Rattle.lists.specs.Refuses.{Same}
 
 -- m objections among n statements, chained by objector and by target
@@ -17,14 +18,7 @@ pub record Entered (n m : ℕ) (pairs links : List ℕ) : Type 0 where
   pub once : (i e : ℕ) → i < e → e < m
       → Same (objectorsIn pairs) (targetsIn pairs) (getD (objectorsIn pairs) e 0) (getD (targetsIn pairs) e 0) i → ⊥
 
--- A walk along the chain of v has come to what c tells: of the entries before m that have the place v, none from there on has u
--- across.
-pub record SearchedTo (along across : List ℕ) (m v u c : ℕ) : Type 0 where
-  pub within : c ≤ m
-  pub has : (e : ℕ) → e + 1 ≡ c → getD along e 0 ≡ v
-  pub none : (e : ℕ) → c ≤ e → e < m → getD along e 0 ≡ v → getD across e 0 ≡ u → ⊥
-
--- the two walks: along the objections by y, and along those against x
+-- the two walks: neither the objections by y that were passed, nor those against x, are the objection of y against x
 abbrev pub BothSearched : (objectors targets : List ℕ) → (m y x by against : ℕ) → Type 0
-BothSearched objectors targets m y x by against = SearchedTo objectors targets m y x by
-    × SearchedTo targets objectors m x y against
+BothSearched objectors targets m y x by against =
+    Walk objectors m y (λ e. ¬ (getD targets e 0 ≡ x)) by × Walk targets m x (λ e. ¬ (getD objectors e 0 ≡ y)) against

@@ -1,3 +1,1 @@
-pub mod LinkSteps
-pub mod Meets
 pub mod Views

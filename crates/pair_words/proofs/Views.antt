@@ -8,9 +8,9 @@ use native.Mathlib.Decide.{decLt}
 use native.Mathlib.Omega.{arith}
 use lib.ListN.{length, length-map, getD, List·getD-map, set, length-set}
 use borrow.Author.Tests.{lt-ltb, le-ltb}
-use Rattle.pair_chain.proofs.ChainSteps.{stored}
-use Rattle.pair_words.specs.Linked.{objectorsIn, targetsIn, withPair, linkAgainst, withLow, withHigh, low, high, linkBy}
-use Rattle.pair_words.specs.Linked.{withLinkBy, beginAgainst, beginBy, withBegins}
+use Rattle.pair_chain.proofs.ChainSteps.{Stored, stored}
+use Rattle.pair_words.specs.Words.{objectorsIn, targetsIn, withPair, linkAgainst, withLow, withHigh, low, high, linkBy}
+use Rattle.pair_words.specs.Words.{withLinkBy, beginAgainst, beginBy, withBegins}
 
 -- as many objectors and targets as words, and each in its word
 pub objectors-length : (pairs : List ℕ) → length (objectorsIn pairs) ≡ length pairs
@@ -28,10 +28,6 @@ objector-at pairs e = List·getD-map (λ w. w % 1024) pairs e 0
 pub target-at : (pairs : List ℕ) (e : ℕ) → getD (targetsIn pairs) e 0 ≡ getD pairs e 0 / 1024 % 1024
 unfolding targetsIn
 target-at pairs e = List·getD-map (λ w. w / 1024 % 1024) pairs e 0
-
--- What a store did at i: what it stores at its entry, and nothing elsewhere.
-abbrev pub Stored : (i e : ℕ) (now was put : ℕ) → Type 0
-Stored i e now was put = ((i ≡ e) × (now ≡ put)) ⊎ ((i ≡ e → ⊥) × (now ≡ was))
 
 as-was : (i e : ℕ) {now was put : ℕ} → Stored i e now was put → (i ≡ e → ⊥) → now ≡ was
 as-was i e (inl (p, a)) n = absurd (n p)

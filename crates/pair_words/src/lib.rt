@@ -13,8 +13,8 @@ use pair_chain::place;
 ghost use mathlib.Core.Path.{_≡_};
 ghost use Prim.Native.Nat.{_<_, _/_, _≤_};
 ghost use lib.ListN.{length, getD};
-ghost use Rattle.pair_words.specs.Linked.{objectorsIn, targetsIn, linkAgainst, linkBy, beginAgainst, beginBy, withPair};
-ghost use Rattle.pair_words.specs.Linked.{withLow, withHigh, withLinkBy, withBegins};
+ghost use Rattle.pair_words.specs.Words.{objectorsIn, targetsIn, linkAgainst, linkBy, beginAgainst, beginBy, withPair};
+ghost use Rattle.pair_words.specs.Words.{withLow, withHigh, withLinkBy, withBegins};
 
 // The objector of an entry.
 pub fn objector_of(pairs: &[u32], e: usize) -> usize

@@ -11,7 +11,7 @@ use Rattle.game.specs.Find.{Decides}
 use Rattle.game.specs.Reason.{Belongs, Reaches, asked, onward, InReason}
 use Rattle.game.proofs.HandedBook.{objects-entry}
 use Rattle.game.proofs.Reason.{reaches-listed}
-use Rattle.pair_chain.specs.Chained.{Walk, Chains}
+use Rattle.pair_chain.specs.Linked.{Walk, Chains}
 use Rattle.pair_chain.proofs.ChainSteps.{split, stored}
 use Rattle.pair_chain.proofs.ChainWalks.{walk-begins, walk-entry, walk-more, walk-map, walk-ends}
 use Rattle.reason_find.specs.Ticks.{Ticked, Grown, Queued, ReachTicked}
@@ -26,7 +26,7 @@ Seen marks objectors targets x room e =
 pub record Following (marks objectors targets : List ℕ) (n x tail : ℕ) (room₀ queue₀ : List ℕ) (end : ℕ) (room queue : List ℕ)
     (c : ℕ) : Type 0 where
   pub grown : Grown (λ y. Belongs (bookOf marks objectors targets) y x) n tail room₀ queue₀ end room queue
-  pub walk : Walk targets x (Seen marks objectors targets x room) c
+  pub walk : Walk targets (length targets) x (Seen marks objectors targets x room) c
 
 module _ (marks objectors targets head next : List ℕ) (chains : Chains marks targets head next) (n x tail : ℕ)
     (room₀ queue₀ : List ℕ) where
@@ -36,22 +36,22 @@ module _ (marks objectors targets head next : List ℕ) (chains : Chains marks t
   abbrev At : ℕ → List ℕ → List ℕ → ℕ → Type 0
   At = Following marks objectors targets n x tail room₀ queue₀
 
-  pub follow-begins : (c : ℕ) → Queued n tail room₀ queue₀ → c ≡ getD head x 0 → At tail room₀ queue₀ c
-  follow-begins c q e = record {
+  pub follow-begins : {c : ℕ} → Queued n tail room₀ queue₀ → x < length marks → c ≡ getD head x 0 → At tail room₀ queue₀ c
+  follow-begins q h e = record {
     grown = grown-none (λ y. Belongs B y x) n tail room₀ queue₀ q;
-    walk = walk-begins targets head next (chains .chained) x (Seen marks objectors targets x room₀) c e;
+    walk = walk-begins (chains .chained) (omega (arith, chains .head-room)) e;
   }
 
   module _ (end : ℕ) (room queue : List ℕ) (c : ℕ) (f : At end room queue c) (t : c ≡ 0 → ⊥) (d : ℕ)
       (e : d ≡ getD next (c - 1) 0) where
     target-is : getD targets (c - 1) 0 ≡ x
-    target-is = walk-entry targets head next (chains .chained) x (Seen marks objectors targets x room) c (f .walk) t .1
+    target-is = walk-entry (f .walk) t .1
 
     pub follow-passes : ¬ Belongs B (getD objectors (c - 1) 0) (getD targets (c - 1) 0) → At end room queue d
     follow-passes p = record {
       grown = f .grown;
       walk =
-          walk-more targets head next (chains .chained) x (Seen marks objectors targets x room) c (f .walk) t d e
+          walk-more (chains .chained) (f .walk) t e
           (λ b. absurd (p (subst (Belongs B (getD objectors (c - 1) 0)) (sym target-is) b)));
     }
 
@@ -64,17 +64,15 @@ module _ (marks objectors targets head next : List ℕ) (chains : Chains marks t
           (f .grown) (λ z q. subst (λ u. Belongs B u x) (sym (q ∙ p)) (subst (Belongs B (getD objectors
           (c - 1) 0)) target-is b)) g;
       walk =
-          walk-more targets head next (chains .chained) x (Seen marks objectors targets x room′) c
-          (walk-map targets x (Seen marks objectors targets x room) (Seen marks objectors targets x room′)
-          (λ k s h. g .kept (getD objectors k 0) (s h)) c (f .walk)) t d e (λ h. subst (Ticked room′) p m);
+          walk-more (chains .chained) (walk-map (λ k s h. g .kept (getD objectors k 0) (s h)) (f .walk)) t e
+          (λ h. subst (Ticked room′) p m);
     }
 
   pub follow-ends : length targets ≡ length objectors → (end : ℕ) (room queue : List ℕ) (c : ℕ) → At end room queue c → c ≡ 0
       → (y : ℕ) → Belongs B y x → Ticked room y
   follow-ends paired end room queue c f z y b =
       let (l, (k, (h, p, q))) = objects-entry marks objectors targets y x .0 (b .of-kind .objects) in
-      subst (Ticked room) p (walk-ends targets head next (chains .chained) x (Seen marks objectors targets x room) c (f .walk) z k
-      (omega arith) q (subst (λ u. Belongs B u x) (sym p) b))
+      subst (Ticked room) p (walk-ends (f .walk) z k (omega arith) q (subst (λ u. Belongs B u x) (sym p) b))
 
 -- on the way along the queue: the statements before `at` are followed
 pub record Spreading (marks objectors targets : List ℕ) (n a tail : ℕ) (room queue : List ℕ) (at : ℕ) : Type 0 where

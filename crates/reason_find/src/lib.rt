@@ -12,7 +12,7 @@ ghost use lib.ListN.{length, getD};
 ghost use Rattle.game.specs.Book.{bookOf};
 ghost use Rattle.game.specs.Find.{Decides};
 ghost use Rattle.game.specs.Reason.{Belongs, InReason};
-ghost use Rattle.pair_chain.specs.Chained.{Chains};
+ghost use Rattle.pair_chain.specs.Linked.{Chains};
 ghost use Rattle.label_solve.specs.Labelled.{ListsLabelled};
 ghost use Rattle.reason_find.specs.Ticks.{Queued, Grown, Ticked, ReachTicked, Chosen};
 

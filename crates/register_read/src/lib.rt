@@ -11,7 +11,7 @@ ghost use Prim.Native.Nat.{_≤_, _<_, _+_};
 ghost use lib.ListN.{length};
 ghost use Rattle.register_index.specs.Indexed.{Indexed};
 ghost use Rattle.register.specs.Reads.{NotEnded};
-ghost use Rattle.pair_words.specs.Linked.{objectorsIn, targetsIn};
+ghost use Rattle.pair_words.specs.Words.{objectorsIn, targetsIn};
 ghost use Rattle.pair_repeat.specs.Entered.{Entered};
 ghost use Rattle.register_read.specs.declared.Taken.the-variants.{Kept};
 ghost use Rattle.register_read.specs.ReadState.{StatementTaken, InStep, ObjectionTaken, Spacious, ReadsTo};

@@ -31,7 +31,8 @@ wide-requires c κs = search needs
 loop-holds : tie.Need-loop-holds Inv-loop μ-loop
 loop-holds c =
     let pre = c .before .before .before .before .before .before .before .before .before .pre in
-    search-begins _ _ _ _ _ _ _ _ (pre .0 .0 .handed .order .paired) _ _ (pre .0 .1 .chained) _ (c .wide .ensures)
+    search-begins _ _ _ _ _ _ _ _ (pre .0 .0 .handed .order .paired) (pre .0 .1 .chained)
+    (omega (arith, pre .0 .2, pre .0 .1 .head-room)) (c .wide .ensures)
 
 sub-place : tie.Need-sub-place Inv-loop μ-loop
 sub-place c = search needs
@@ -88,15 +89,15 @@ loop-less c =
     let pre = c .before .before .before .before .before .before .before .before .before .before .before .before .before .before .before .before .before .pre in
     let loop = c .before .before .before .before .before .before .before .loop in
     let loop-test = c .before .before .before .before .before .before .loop-test in
-    walk-lower _ _ _ (pre .0 .1 .chained) _ _ _ (loop .inv .walk) (loop-test .taken) _ (c .before .before .wide2 .ensures)
+    walk-lower (pre .0 .1 .chained) (loop .inv .walk) (loop-test .taken) (c .before .before .wide2 .ensures)
 
 loop-again : tie.Need-loop-again Inv-loop μ-loop
 loop-again c =
     let pre = c .before .before .before .before .before .before .before .before .before .before .before .before .before .before .before .before .before .pre in
     let loop = c .before .before .before .before .before .before .before .loop in
     let loop-test = c .before .before .before .before .before .before .loop-test in
-    search-passes _ _ _ _ _ _ _ _ (pre .0 .0 .handed .order .paired) _ _ (pre .0 .1 .chained) _ _ (loop .inv) (loop-test .taken) _
-    (c .before .before .before .before .place .ensures) _ (c .before .before .wide2 .ensures)
+    search-passes _ _ _ _ _ _ _ _ (pre .0 .0 .handed .order .paired) (pre .0 .1 .chained) (loop .inv) (loop-test .taken)
+    (c .before .before .before .before .place .ensures) (c .before .before .wide2 .ensures)
     (λ p q. absurd (c .if1 .taken p))
 
 mul-if2 : tie.Need-mul-if2 Inv-loop μ-loop
@@ -131,7 +132,7 @@ loop-less-2 c =
     let pre = c .before .before .before .before .before .before .before .before .before .before .before .before .before .before .before .before .before .before .before .pre in
     let loop = c .before .before .before .before .before .before .before .before .before .loop in
     let loop-test = c .before .before .before .before .before .before .before .before .loop-test in
-    walk-lower _ _ _ (pre .0 .1 .chained) _ _ _ (loop .inv .walk) (loop-test .taken) _
+    walk-lower (pre .0 .1 .chained) (loop .inv .walk) (loop-test .taken)
     (c .before .before .before .before .wide2 .ensures)
 
 loop-again-2 : tie.Need-loop-again-2 Inv-loop μ-loop
@@ -140,8 +141,8 @@ loop-again-2 c =
     let loop = c .before .before .before .before .before .before .before .before .before .loop in
     let loop-test = c .before .before .before .before .before .before .before .before .loop-test in
     let place = c .before .before .before .before .before .before .place in
-    search-passes _ _ _ _ _ _ _ _ (pre .0 .0 .handed .order .paired) _ _ (pre .0 .1 .chained) _ _ (loop .inv) (loop-test .taken) _
-    (place .ensures) _ (c .before .before .before .before .wide2 .ensures) (λ p q. absurd (c .if2 .taken q))
+    search-passes _ _ _ _ _ _ _ _ (pre .0 .0 .handed .order .paired) (pre .0 .1 .chained) (loop .inv) (loop-test .taken)
+    (place .ensures) (c .before .before .before .before .wide2 .ensures) (λ p q. absurd (c .if2 .taken q))
 
 loop-less-3 : tie.Need-loop-less-3 Inv-loop μ-loop
 loop-less-3 c =
@@ -149,7 +150,7 @@ loop-less-3 c =
     let loop = c .before .before .before .before .before .before .before .before .before .before .loop in
     let loop-test = c .before .before .before .before .before .before .before .before .before .loop-test in
     let wide2 = c .before .before .before .before .before .wide2 in
-    walk-lower _ _ _ (pre .0 .1 .chained) _ _ _ (loop .inv .walk) (loop-test .taken) _ (wide2 .ensures)
+    walk-lower (pre .0 .1 .chained) (loop .inv .walk) (loop-test .taken) (wide2 .ensures)
 
 loop-again-3 : tie.Need-loop-again-3 Inv-loop μ-loop
 loop-again-3 c =
@@ -158,8 +159,8 @@ loop-again-3 c =
     let loop-test = c .before .before .before .before .before .before .before .before .before .loop-test in
     let place = c .before .before .before .before .before .before .before .place in
     let wide2 = c .before .before .before .before .before .wide2 in
-    search-passes _ _ _ _ _ _ _ _ (pre .0 .0 .handed .order .paired) _ _ (pre .0 .1 .chained) _ _ (loop .inv) (loop-test .taken) _
-    (place .ensures) _ (wide2 .ensures) (λ p q. c .if3 .taken)
+    search-passes _ _ _ _ _ _ _ _ (pre .0 .0 .handed .order .paired) (pre .0 .1 .chained) (loop .inv) (loop-test .taken)
+    (place .ensures) (wide2 .ensures) (λ p q. c .if3 .taken)
 
 loop-less-4 : tie.Need-loop-less-4 Inv-loop μ-loop
 loop-less-4 c =
@@ -167,7 +168,7 @@ loop-less-4 c =
     let loop = c .before .before .before .before .before .before .before .before .before .before .loop in
     let loop-test = c .before .before .before .before .before .before .before .before .before .loop-test in
     let wide2 = c .before .before .before .before .before .wide2 in
-    walk-lower _ _ _ (pre .0 .1 .chained) _ _ _ (loop .inv .walk) (loop-test .taken) _ (wide2 .ensures)
+    walk-lower (pre .0 .1 .chained) (loop .inv .walk) (loop-test .taken) (wide2 .ensures)
 
 loop-again-4 : tie.Need-loop-again-4 Inv-loop μ-loop
 loop-again-4 c =
@@ -176,13 +177,13 @@ loop-again-4 c =
     let loop-test = c .before .before .before .before .before .before .before .before .before .loop-test in
     let place = c .before .before .before .before .before .before .before .place in
     let wide2 = c .before .before .before .before .before .wide2 in
-    search-keeps _ _ _ _ _ _ _ _ (pre .0 .0 .handed .order .paired) _ _ (pre .0 .1 .chained) _ _ (loop .inv) (loop-test .taken) _
-    (place .ensures) _ (wide2 .ensures) (c .before .before .before .if1 .left) (c .before .if2 .left) (c .if3 .left)
+    search-keeps _ _ _ _ _ _ _ _ (pre .0 .0 .handed .order .paired) (pre .0 .1 .chained) (loop .inv) (loop-test .taken)
+    (place .ensures) (wide2 .ensures) (c .before .before .before .if1 .left) (c .before .if2 .left) (c .if3 .left)
 
 returns : tie.Need-returns Inv-loop μ-loop
 returns c =
     let pre = c .before .before .before .before .before .before .before .before .before .before .before .pre in
-    search-ends _ _ _ _ _ _ _ _ (pre .0 .0 .handed .order .paired) _ _ (pre .0 .1 .chained) _ _ (c .before .loop .inv)
+    search-ends _ _ _ _ _ _ _ _ (pre .0 .0 .handed .order .paired) (c .before .loop .inv)
     (c .loop-test .left) (λ z o. omega (arith, pre .0 .0 .handed .order .objector (o .0 .0) (o .0 .1), o .0 .3)) (pre .1)
 
 pub onward-spec : {M : Type 1} → statement M

@@ -2,12 +2,14 @@
 -- invariant of the walk is what every objector passed was found to be, beside tables that are right.
 use mathlib.Core.Bool.{true, false}
 use Prim.Native.Nat.{ℕ, _<_}
+use lib.ListN.{length}
 use native.Mathlib.Omega.{arith}
 use Rattle.game.specs.Book.{bookOf}
-use Rattle.pair_chain.specs.Chained.{Walk}
+use Rattle.pair_chain.specs.Linked.{Walk}
+use Rattle.pair_chain.proofs.ChainWalks.{walk-begins, walk-lower}
 use Rattle.exercise_within.specs.Known.{Known}
 use Rattle.exercise_within.proofs.Entries.{Weak, Beaten}
-use Rattle.exercise_within.proofs.WithinSteps.{begins, listed, lower, falls-slot, falls-believed, falls-at-once}
+use Rattle.exercise_within.proofs.WithinSteps.{listed, falls-slot, falls-believed, falls-at-once}
 use Rattle.exercise_within.proofs.WithinSteps.{falls-goes-on, falls-found, falls-ends, stands-slot, stands-believed}
 use Rattle.exercise_within.proofs.WithinSteps.{stands-never, stands-too-late, stands-goes-on, stands-lost, stands-ends}
 use Rattle.exercise_within.proofs.KnownTable.{same-room, set-room}
@@ -58,7 +60,7 @@ stands-within-below t =
 
 abbrev falls-within-Inv-loop : falls-within-lts.InvT-loop
 falls-within-Inv-loop marks objectors targets head next x turns falls₀ stands₀ slot known c₀ falls stands c =
-    Walk targets x (Weak marks objectors targets turns) c × Known (bookOf marks objectors targets) falls stands
+    Walk targets (length targets) x (Weak marks objectors targets turns) c × Known (bookOf marks objectors targets) falls stands
 
 abbrev falls-within-μ-loop : falls-within-lts.MeasureT-loop
 falls-within-μ-loop marks objectors targets head next x turns falls₀ stands₀ slot known c₀ falls stands c = c
@@ -171,9 +173,10 @@ falls-within-loop-holds : (t : ℕ) → falls-within-lts.Need-loop-holds (
   stands-within.Post,
 ) (falls-within-at t) falls-within.Post falls-within-Inv-loop falls-within-μ-loop
 falls-within-loop-holds t c =
-    let args = c .before .before .before .before .before .before .before .before .before .before .before .before .before .args in
-    let pre = c .before .before .before .before .before .before .before .before .before .before .before .before .before .pre in
-    (begins (args .x) (args .turns) (pre .1 .0) _ _ (c .wide .ensures), pre .1 .1)
+    let pre = c .before .before .before .before .before .before .before .before .before .before .before .before .before .pre in (
+      walk-begins (pre .1 .0 .0 .1 .chained) (omega (arith, pre .1 .0 .1, pre .1 .0 .0 .1 .head-room)) (c .wide .ensures),
+      pre .1 .1,
+    )
 
 falls-within-sub-place : (t : ℕ) → falls-within-lts.Need-sub-place (
   wide-reads.Asked,
@@ -283,8 +286,8 @@ falls-within-stands-within-requires t c κs =
       (
         (
           pre .1 .0 .0,
-          listed (args .x) (args .turns) (pre .1 .0) _ (loop .c) (loop .inv .0)
-              (loop-test .taken) _ (c .before .before .before .before .place .ensures),
+          listed (args .x) (args .turns) (pre .1 .0) (loop .inv .0)
+              (loop-test .taken) (c .before .before .before .before .place .ensures),
           omega (arith, pre .1 .0 .2),
         ),
         loop .inv .1,
@@ -364,7 +367,7 @@ falls-within-loop-less t c =
     let loop = c .before .before .before .before .before .before .before .before .before .before .before .before .before .loop in
     let loop-test = c .before .before .before .before .before .before .before .before .before .before .before .before .loop-test in
     let wide2 = c .before .before .before .before .before .before .before .before .wide2 in
-    lower (args .x) (args .turns) (pre .1 .0) _ (loop .c) (loop .inv .0) (loop-test .taken) _ (wide2 .ensures)
+    walk-lower (pre .1 .0 .0 .1 .chained) (loop .inv .0) (loop-test .taken) (wide2 .ensures)
 
 falls-within-loop-again : (t : ℕ) → falls-within-lts.Need-loop-again (
   wide-reads.Asked,
@@ -384,7 +387,7 @@ falls-within-loop-again t c =
     let wide2 = c .before .before .before .before .before .before .before .before .wide2 in
     let stands-within = c .before .before .before .before .before .stands-within in
     falls-goes-on (args .x) (args .turns) (pre .1 .0) (stands-within .ensures .1) (if1 .left) (loop .c) (loop .inv .0)
-    (loop-test .taken) _ _ (place .ensures) (stands-within .ensures .0) (c .if4 .left) _ (wide2 .ensures)
+    (loop-test .taken) _ _ (place .ensures) (stands-within .ensures .0) (c .if4 .left) (wide2 .ensures)
 
 falls-within-slice-write-falls-2 : (t : ℕ) → falls-within-lts.Need-slice-write-falls-2 (
   wide-reads.Asked,
@@ -440,7 +443,7 @@ falls-within-returns-5 t c =
 
 abbrev stands-within-Inv-loop : stands-within-lts.InvT-loop
 stands-within-Inv-loop marks objectors targets head next x turns falls₀ stands₀ slot known c₀ falls stands c =
-    Walk targets x (Beaten marks objectors targets turns) c × Known (bookOf marks objectors targets) falls stands
+    Walk targets (length targets) x (Beaten marks objectors targets turns) c × Known (bookOf marks objectors targets) falls stands
 
 abbrev stands-within-μ-loop : stands-within-lts.MeasureT-loop
 stands-within-μ-loop marks objectors targets head next x turns falls₀ stands₀ slot known c₀ falls stands c = c
@@ -563,9 +566,11 @@ stands-within-loop-holds : (t : ℕ) → stands-within-lts.Need-loop-holds (
   falls-within.Post,
 ) (stands-within-at t) stands-within.Post stands-within-Inv-loop stands-within-μ-loop
 stands-within-loop-holds t c =
-    let args = c .before .before .before .before .before .before .before .before .before .before .before .before .before .before .args in
-    let pre = c .before .before .before .before .before .before .before .before .before .before .before .before .before .before .pre in
-    (begins (args .x) (args .turns) (pre .1 .0) _ _ (c .wide .ensures), pre .1 .1)
+    let called = c .before .before .before .before .before .before .before in
+    let pre = called .before .before .before .before .before .before .before .pre in (
+      walk-begins (pre .1 .0 .0 .1 .chained) (omega (arith, pre .1 .0 .1, pre .1 .0 .0 .1 .head-room)) (c .wide .ensures),
+      pre .1 .1,
+    )
 
 stands-within-same-length : (t : ℕ) → stands-within-lts.Need-same-length (
   wide-reads.Asked,
@@ -714,8 +719,8 @@ stands-within-falls-within-requires t c κs =
       (
         (
           pre .1 .0 .0,
-          listed (args .x) (args .turns) (pre .1 .0) _ (loop .c) (loop .inv .0)
-              (loop-test .taken) _ (c .before .before .before .before .place .ensures),
+          listed (args .x) (args .turns) (pre .1 .0) (loop .inv .0)
+              (loop-test .taken) (c .before .before .before .before .place .ensures),
           omega (arith, pre .1 .0 .2),
         ),
         loop .inv .1,
@@ -795,7 +800,7 @@ stands-within-loop-less t c =
     let loop = c .before .before .before .before .before .before .before .before .before .before .before .before .before .before .loop in
     let loop-test = c .before .before .before .before .before .before .before .before .before .before .before .before .before .loop-test in
     let wide2 = c .before .before .before .before .before .before .before .before .wide2 in
-    lower (args .x) (args .turns) (pre .1 .0) _ (loop .c) (loop .inv .0) (loop-test .taken) _ (wide2 .ensures)
+    walk-lower (pre .1 .0 .0 .1 .chained) (loop .inv .0) (loop-test .taken) (wide2 .ensures)
 
 stands-within-loop-again : (t : ℕ) → stands-within-lts.Need-loop-again (
   wide-reads.Asked,
@@ -815,7 +820,7 @@ stands-within-loop-again t c =
     let wide2 = c .before .before .before .before .before .before .before .before .wide2 in
     let falls-within = c .before .before .before .before .before .falls-within in
     stands-goes-on (args .x) (args .turns) (pre .1 .0) (falls-within .ensures .1) (loop .c) (loop .inv .0) (loop-test .taken)
-    (if4 .left) _ _ (place .ensures) (falls-within .ensures .0) (not-false _ (c .if5 .left)) _ (wide2 .ensures)
+    (if4 .left) _ _ (place .ensures) (falls-within .ensures .0) (not-false _ (c .if5 .left)) (wide2 .ensures)
 
 stands-within-slice-write-stands-2 : (t : ℕ) → stands-within-lts.Need-slice-write-stands-2 (
   wide-reads.Asked,

@@ -82,53 +82,34 @@ slice-aggregate-run-4 : tie.Need-slice-aggregate-run-4
 slice-aggregate-run-4 c = search needs
 
 run-requires : tie.Need-run-requires
-run-requires c κs = (
-  c .before .before .before .before .before .before .before .before .before .before .before .before .before .before .before .before .before .before .before .before .before .before .before .before .before .before .before .before .before .before .before .before .before .before .before .before .pre .0,
-  (
-    record {
-      labels-room =
-          c .before .before .before .before .before .before .before .before .before .before .before .start .kept .1 .1 .1 .1 .0
-          ∙
-          c .before .before .before .before .before .before .before .before .before .before .before .before .before .before .before .before .before .before .before .before .blank .kept .1 .0
-          ∙
-          c .before .before .before .before .before .before .before .before .before .before .before .before .before .before .before .before .before .before .before .before .before .before .before .before .before .before .before .before .before .before .before .before .before .before .before .before .pre .1 .labels-room;
-      lengths-room =
-          c .before .before .before .before .before .before .before .before .before .before .before .start .kept .1 .1 .1 .1 .1 .0
-          ∙
-          c .before .before .before .before .before .before .before .before .before .before .before .before .before .before .before .before .before .before .before .before .blank .kept .1 .1 .0
-          ∙
-          c .before .before .before .before .before .before .before .before .before .before .before .before .before .before .before .before .before .before .before .before .before .before .before .before .before .before .before .before .before .before .before .before .before .before .before .before .pre .1 .lengths-room;
-    },
-    (
-      record {
-        head-room = omega (
-          arith,
-          c .before .before .before .before .before .before .before .before .before .before .before .before .before .before .before .before .before .before .before .before .before .before .before .before .before .before .before .before .chain .kept .1 .0,
-          c .before .before .before .before .before .before .before .before .before .before .before .before .before .before .before .before .before .before .before .before .before .before .before .before .before .before .before .before .before .before .before .before .before .before .before .before .pre .0 .few-marks,
-        );
-        next-room = omega (
-          arith,
-          c .before .before .before .before .before .before .before .before .before .before .before .before .before .before .before .before .before .before .before .before .before .before .before .before .before .before .before .before .chain .kept .1 .1 .0,
-          c .before .before .before .before .before .before .before .before .before .before .before .before .before .before .before .before .before .before .before .before .before .before .before .before .before .before .before .before .before .before .before .before .before .before .before .before .pre .0 .few-pairs,
-        );
-        left-room = omega (
-          arith,
-          c .before .before .before .before .before .before .before .before .before .before .before .before .before .before .before .before .before .before .before .before .before .before .before .before .count .kept .1 .1 .1 .0,
-          c .before .before .before .before .before .before .before .before .before .before .before .before .before .before .before .before .before .before .before .before .before .before .before .before .before .before .before .before .before .before .before .before .before .before .before .before .pre .0 .few-marks,
-        );
-        queue-room = omega (
-          arith,
-          c .before .before .before .before .before .before .before .before .before .before .before .start .kept .1 .1 .1 .1 .1 .1 .0,
-          c .before .before .before .before .before .before .before .before .before .before .before .before .before .before .before .before .before .before .before .before .before .before .before .before .before .before .before .before .before .before .before .before .before .before .before .before .pre .0 .few-marks,
-        );
-      },
+run-requires c κs =
+    let started = c .before .before .before .before .before .before .before .before .before .before .before in
+    let blanked = started .before .before .before .before .before .before .before .before .before in
+    let counted = blanked .before .before .before .before in
+    let chained = counted .before .before .before .before in
+    let pre = chained .before .before .before .before .before .before .before .before .pre in (
+      pre .0,
       (
-        c .before .before .before .before .before .before .before .before .before .before .before .before .before .before .before .before .before .before .before .before .before .before .before .before .before .before .before .before .chain .ensures,
-        c .before .before .before .before .before .before .before .before .before .before .before .start .ensures,
+        record {
+          labels-room = started .start .kept .1 .1 .1 .1 .0 ∙ blanked .blank .kept .1 .0 ∙ pre .1 .labels-room;
+          lengths-room = started .start .kept .1 .1 .1 .1 .1 .0 ∙ blanked .blank .kept .1 .1 .0 ∙ pre .1 .lengths-room;
+        },
+        (
+          record {
+            left-room = omega (arith, counted .count .kept .1 .1 .1 .0, pre .0 .few-marks);
+            queue-room = omega (arith, started .start .kept .1 .1 .1 .1 .1 .1 .0, pre .0 .few-marks);
+          },
+          (
+            record {
+              chained = chained .chain .ensures;
+              head-room = omega (arith, chained .chain .kept .1 .0, pre .0 .few-marks);
+              next-room = omega (arith, chained .chain .kept .1 .1 .0, pre .0 .few-pairs);
+            },
+            started .start .ensures,
+          ),
+        ),
       ),
-    ),
-  ),
-)
+    )
 
 same-length : tie.Need-same-length
 same-length c = search needs

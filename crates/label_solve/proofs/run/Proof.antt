@@ -50,46 +50,34 @@ slice-read-if1 c =
     )
 
 fell-targets-requires : tie.Need-fell-targets-requires Inv-loop μ-loop
-fell-targets-requires c κs = (
-  c .before .before .before .before .before .before .before .before .before .before .before .before .before .before .before .before .before .before .before .pre .0,
-  (
-    record {
-      labels-room = c .before .before .before .before .before .before .before .before .before .loop .inv .1
-          ∙
-          c .before .before .before .before .before .before .before .before .before .before .before .before .before .before .before .before .before .before .before .pre .1 .0 .labels-room;
-      lengths-room = c .before .before .before .before .before .before .before .before .before .loop .inv .2
-          ∙
-          c .before .before .before .before .before .before .before .before .before .before .before .before .before .before .before .before .before .before .before .pre .1 .0 .lengths-room;
-    },
-    (
-      record {
-        head-room =
-            c .before .before .before .before .before .before .before .before .before .before .before .before .before .before .before .before .before .before .before .pre .1 .1 .0 .head-room;
-        next-room =
-            c .before .before .before .before .before .before .before .before .before .before .before .before .before .before .before .before .before .before .before .pre .1 .1 .0 .next-room;
-        left-room = omega (
-          arith,
-          c .before .before .before .before .before .before .before .before .before .loop .inv .3,
-          c .before .before .before .before .before .before .before .before .before .before .before .before .before .before .before .before .before .before .before .pre .1 .1 .0 .left-room,
-        );
-        queue-room = omega (
-          arith,
-          c .before .before .before .before .before .before .before .before .before .loop .inv .4,
-          c .before .before .before .before .before .before .before .before .before .before .before .before .before .before .before .before .before .before .before .pre .1 .1 .0 .queue-room,
-        );
-      },
+fell-targets-requires c κs =
+    let tested = c .before .before .before .before .before .before .before .before in
+    let loop = tested .before .loop in
+    let loop-test = tested .loop-test .taken in
+    let pre = tested .before .before .before .before .before .before .before .before .before .before .before .pre in (
+      pre .0,
       (
-        c .before .before .before .before .before .before .before .before .before .before .before .before .before .before .before .before .before .before .before .pre .1 .1 .1 .0,
+        record {
+          labels-room = loop .inv .1 ∙ pre .1 .0 .labels-room;
+          lengths-room = loop .inv .2 ∙ pre .1 .0 .lengths-room;
+        },
         (
-          c .before .before .before .before .before .before .before .before .before .loop .inv .0,
-          c .before .before .before .before .before .before .before .before .loop-test .taken,
-          rw (c .before .before .before .before .before .before .wide .ensures) at
-              (c .before .before .before .before .if1 .taken),
+          record {
+            left-room = omega (arith, loop .inv .3, pre .1 .1 .0 .left-room);
+            queue-room = omega (arith, loop .inv .4, pre .1 .1 .0 .queue-room);
+          },
+          (
+            pre .1 .1 .1 .0,
+            (
+              loop .inv .0,
+              loop-test,
+              rw (c .before .before .before .before .before .before .wide .ensures) at
+                  (c .before .before .before .before .if1 .taken),
+            ),
+          ),
         ),
       ),
-    ),
-  ),
-)
+    )
 
 add-h : tie.Need-add-h Inv-loop μ-loop
 add-h c =
@@ -116,48 +104,35 @@ loop-again c =
     )
 
 stand-targets-requires : tie.Need-stand-targets-requires Inv-loop μ-loop
-stand-targets-requires c κs = (
-  c .before .before .before .before .before .before .before .before .before .before .before .before .before .before .before .before .before .before .before .pre .0,
-  (
-    record {
-      labels-room = c .before .before .before .before .before .before .before .before .before .loop .inv .1
-          ∙
-          c .before .before .before .before .before .before .before .before .before .before .before .before .before .before .before .before .before .before .before .pre .1 .0 .labels-room;
-      lengths-room = c .before .before .before .before .before .before .before .before .before .loop .inv .2
-          ∙
-          c .before .before .before .before .before .before .before .before .before .before .before .before .before .before .before .before .before .before .before .pre .1 .0 .lengths-room;
-    },
-    (
-      record {
-        head-room =
-            c .before .before .before .before .before .before .before .before .before .before .before .before .before .before .before .before .before .before .before .pre .1 .1 .0 .head-room;
-        next-room =
-            c .before .before .before .before .before .before .before .before .before .before .before .before .before .before .before .before .before .before .before .pre .1 .1 .0 .next-room;
-        left-room = omega (
-          arith,
-          c .before .before .before .before .before .before .before .before .before .loop .inv .3,
-          c .before .before .before .before .before .before .before .before .before .before .before .before .before .before .before .before .before .before .before .pre .1 .1 .0 .left-room,
-        );
-        queue-room = omega (
-          arith,
-          c .before .before .before .before .before .before .before .before .before .loop .inv .4,
-          c .before .before .before .before .before .before .before .before .before .before .before .before .before .before .before .before .before .before .before .pre .1 .1 .0 .queue-room,
-        );
-      },
+stand-targets-requires c κs =
+    let tested = c .before .before .before .before .before .before .before .before in
+    let loop = tested .before .loop in
+    let loop-test = tested .loop-test .taken in
+    let pre = tested .before .before .before .before .before .before .before .before .before .before .before .pre in (
+      pre .0,
       (
-        c .before .before .before .before .before .before .before .before .before .before .before .before .before .before .before .before .before .before .before .pre .1 .1 .1 .0,
+        record {
+          labels-room = loop .inv .1 ∙ pre .1 .0 .labels-room;
+          lengths-room = loop .inv .2 ∙ pre .1 .0 .lengths-room;
+        },
         (
-          c .before .before .before .before .before .before .before .before .before .loop .inv .0,
-          c .before .before .before .before .before .before .before .before .loop-test .taken,
-          current-falls _ _ _ _ _ _ _ _ _ _
-              (c .before .before .before .before .before .before .before .before .before .loop .inv .0)
-              (c .before .before .before .before .before .before .before .before .loop-test .taken)
-              (c .before .before .before .before .before .before .wide .ensures) (c .before .before .before .before .if1 .left),
+          record {
+            left-room = omega (arith, loop .inv .3, pre .1 .1 .0 .left-room);
+            queue-room = omega (arith, loop .inv .4, pre .1 .1 .0 .queue-room);
+          },
+          (
+            pre .1 .1 .1 .0,
+            (
+              loop .inv .0,
+              loop-test,
+              current-falls _ _ _ _ _ _ _ _ _ _ (loop .inv .0) loop-test
+                  (c .before .before .before .before .before .before .wide .ensures)
+                  (c .before .before .before .before .if1 .left),
+            ),
+          ),
         ),
       ),
-    ),
-  ),
-)
+    )
 
 add-h-2 : tie.Need-add-h-2 Inv-loop μ-loop
 add-h-2 c =

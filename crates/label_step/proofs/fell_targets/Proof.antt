@@ -3,6 +3,7 @@ use mathlib.Core.Path.{_≡_, refl, sym}
 use Prim.Native.Nat.{_+_, _-_}
 use native.Mathlib.Omega.{arith}
 use lib.ListN.{length, length-set}
+use Rattle.pair_chain.proofs.ChainWalks.{walk-lower}
 use Rattle.label_queue.specs.Queue.{Run}
 use Rattle.label_queue.proofs.Runs.{Link, enter, moved, current-place, current-short, fell-skip, fell-set, queue-room}
 use Rattle.label_queue.proofs.QueueLinks.{target-place}
@@ -76,7 +77,7 @@ shared-slice-read-wide c =
     omega (
       arith,
       current-place _ _ _ _ _ _ _ _ _ _ (pre .1 .1 .1 .1 .0) (pre .1 .1 .1 .1 .1) (c .before .before .wide .ensures),
-      pre .1 .1 .0 .head-room,
+      pre .1 .1 .1 .0 .head-room,
     )
 
 wide-requires-2 : tie.Need-wide-requires-2 Inv-loop μ-loop
@@ -98,12 +99,12 @@ sub-place c = omega (arith, c .loop-test .taken)
 mul-place : tie.Need-mul-place Inv-loop μ-loop
 mul-place c =
     let pre = c .before .before .before .before .before .before .before .before .before .before .before .before .before .before .before .before .pre in
-    omega (arith, c .before .loop .inv .0 .1 .low, pre .0 .few-pairs)
+    omega (arith, c .before .loop .inv .0 .1 .walk .low, pre .0 .few-pairs)
 
 shared-slice-read-place : tie.Need-shared-slice-read-place Inv-loop μ-loop
 shared-slice-read-place c =
     let pre = c .before .before .before .before .before .before .before .before .before .before .before .before .before .before .before .before .before .pre in
-    omega (arith, c .before .loop-test .taken, c .before .before .loop .inv .0 .1 .low, pre .0 .order .paired)
+    omega (arith, c .before .loop-test .taken, c .before .before .loop .inv .0 .1 .walk .low, pre .0 .order .paired)
 
 place-requires : tie.Need-place-requires Inv-loop μ-loop
 place-requires c κs = search needs
@@ -114,7 +115,7 @@ sub-wide c = omega (arith, c .before .before .loop-test .taken)
 mul-wide-3 : tie.Need-mul-wide-3 Inv-loop μ-loop
 mul-wide-3 c =
     let pre = c .before .before .before .before .before .before .before .before .before .before .before .before .before .before .before .before .before .before .pre in
-    omega (arith, c .before .before .before .loop .inv .0 .1 .low, pre .0 .few-pairs)
+    omega (arith, c .before .before .before .loop .inv .0 .1 .walk .low, pre .0 .few-pairs)
 
 shared-slice-read-wide-2 : tie.Need-shared-slice-read-wide-2 Inv-loop μ-loop
 shared-slice-read-wide-2 c =
@@ -122,8 +123,8 @@ shared-slice-read-wide-2 c =
     omega (
       arith,
       c .before .before .before .loop-test .taken,
-      c .before .before .before .before .loop .inv .0 .1 .low,
-      pre .1 .1 .0 .next-room,
+      c .before .before .before .before .loop .inv .0 .1 .walk .low,
+      pre .1 .1 .1 .0 .next-room,
     )
 
 wide-requires-3 : tie.Need-wide-requires-3 Inv-loop μ-loop
@@ -136,7 +137,7 @@ slice-read-if1 c =
     let loop-test = c .before .before .before .before .before .loop-test in
     omega (
       arith,
-      target-place _ _ _ (pre .0) _ _ (omega (arith, loop-test .taken, loop .inv .0 .1 .low))
+      target-place _ _ _ (pre .0) _ _ (omega (arith, loop-test .taken, loop .inv .0 .1 .walk .low))
           (c .before .before .before .place .ensures),
       loop .inv .1,
       pre .1 .0 .labels-room,
@@ -147,27 +148,22 @@ loop-less c =
     let pre = c .before .before .before .before .before .before .before .before .before .before .before .before .before .before .before .before .before .before .before .before .before .before .pre in
     let loop = c .before .before .before .before .before .before .before .loop in
     let loop-test = c .before .before .before .before .before .before .loop-test in
-    omega (
-      arith,
-      pre .1 .1 .1 .0 .next-low (loop .c - 1) (omega (arith, loop-test .taken, loop .inv .0 .1 .low)),
-      loop-test .taken,
-      c .before .before .wide3 .ensures,
-    )
+    walk-lower (pre .1 .1 .1 .0 .chained) (loop .inv .0 .1 .walk) (loop-test .taken) (c .before .before .wide3 .ensures)
 
 loop-again : tie.Need-loop-again Inv-loop μ-loop
-loop-again c = (
-  moved (sym (c .before .before .wide3 .ensures)) (fell-skip _ _ _
-      (c .before .before .before .before .before .before .before .before .before .before .before .before .before .before .before .before .before .before .before .before .before .before .pre .0)
-      _ _
-      (c .before .before .before .before .before .before .before .before .before .before .before .before .before .before .before .before .before .before .before .before .before .before .pre .1 .1 .1 .0)
-      _ _ _ _ _ _ _ _ _ _ _ (c .before .before .before .before .before .before .before .loop .inv .0 .0)
-      (c .before .before .before .before .before .before .before .loop .inv .0 .1)
-      (c .before .before .before .before .before .before .loop-test .taken) _
-      (sym (c .before .before .before .before .place .ensures)) refl (c .if1 .taken)),
-  c .before .before .before .before .before .before .before .loop .inv .1,
-  c .before .before .before .before .before .before .before .loop .inv .2,
-  c .before .before .before .before .before .before .before .loop .inv .3,
-)
+loop-again c =
+    let tested = c .before .before .before .before .before .before in
+    let loop = tested .before .loop in
+    let loop-test = tested .loop-test in
+    let begun = tested .before .before .before .before .before .before .before .before in
+    let pre = begun .before .before .before .before .before .before .before .before .pre in (
+      moved (sym (c .before .before .wide3 .ensures))
+          (fell-skip (pre .0) (pre .1 .1 .1 .0) (loop .inv .0 .0) (loop .inv .0 .1) (loop-test .taken)
+          (sym (c .before .before .before .before .place .ensures)) refl (c .if1 .taken)),
+      loop .inv .1,
+      loop .inv .2,
+      loop .inv .3,
+    )
 
 slice-write-labels : tie.Need-slice-write-labels Inv-loop μ-loop
 slice-write-labels c =
@@ -176,7 +172,7 @@ slice-write-labels c =
     let loop-test = c .before .before .before .before .before .before .loop-test in
     omega (
       arith,
-      target-place _ _ _ (pre .0) _ _ (omega (arith, loop-test .taken, loop .inv .0 .1 .low))
+      target-place _ _ _ (pre .0) _ _ (omega (arith, loop-test .taken, loop .inv .0 .1 .walk .low))
           (c .before .before .before .before .place .ensures),
       loop .inv .1,
       pre .1 .0 .labels-room,
@@ -189,7 +185,7 @@ mul-lengths c =
     let loop-test = c .before .before .before .before .before .before .loop-test in
     omega (
       arith,
-      target-place _ _ _ (pre .0) _ _ (omega (arith, loop-test .taken, loop .inv .0 .1 .low))
+      target-place _ _ _ (pre .0) _ _ (omega (arith, loop-test .taken, loop .inv .0 .1 .walk .low))
           (c .before .before .before .before .place .ensures),
       pre .0 .few-marks,
     )
@@ -201,7 +197,7 @@ slice-write-lengths c =
     let loop-test = c .before .before .before .before .before .before .loop-test in
     omega (
       arith,
-      target-place _ _ _ (pre .0) _ _ (omega (arith, loop-test .taken, loop .inv .0 .1 .low))
+      target-place _ _ _ (pre .0) _ _ (omega (arith, loop-test .taken, loop .inv .0 .1 .walk .low))
           (c .before .before .before .before .place .ensures),
       loop .inv .2,
       pre .1 .0 .lengths-room,
@@ -214,7 +210,7 @@ cast-queue c =
     let loop-test = c .before .before .before .before .before .before .loop-test in
     omega (
       arith,
-      target-place _ _ _ (pre .0) _ _ (omega (arith, loop-test .taken, loop .inv .0 .1 .low))
+      target-place _ _ _ (pre .0) _ _ (omega (arith, loop-test .taken, loop .inv .0 .1 .walk .low))
           (c .before .before .before .before .place .ensures),
       pre .0 .few-marks,
     )
@@ -230,7 +226,7 @@ slice-write-queue c =
     let pre = c .before .before .before .before .before .before .before .before .before .before .before .before .before .before .before .before .before .before .before .before .before .before .pre in
     let loop = c .before .before .before .before .before .before .before .loop in
     let loop-test = c .before .before .before .before .before .before .loop-test in
-    queue-room _ _ _ (pre .0) _ _ (pre .1 .1 .1 .0) _ _ _ _ _ _ _ _ _ _ _ (loop .inv .0 .0) (loop .inv .0 .1) (loop-test .taken) _
+    queue-room (pre .0) (pre .1 .1 .1 .0) (loop .inv .0 .0) (loop .inv .0 .1) (loop-test .taken)
     (sym (c .before .before .before .before .place .ensures)) (slice-write-labels c)
     (omega (arith, loop .inv .3, pre .1 .1 .0 .queue-room)) (c .if1 .left)
 
@@ -245,28 +241,23 @@ loop-less-2 c =
     let pre = c .before .before .before .before .before .before .before .before .before .before .before .before .before .before .before .before .before .before .before .before .before .before .pre in
     let loop = c .before .before .before .before .before .before .before .loop in
     let loop-test = c .before .before .before .before .before .before .loop-test in
-    omega (
-      arith,
-      pre .1 .1 .1 .0 .next-low (loop .c - 1) (omega (arith, loop-test .taken, loop .inv .0 .1 .low)),
-      loop-test .taken,
-      c .before .before .wide3 .ensures,
-    )
+    walk-lower (pre .1 .1 .1 .0 .chained) (loop .inv .0 .1 .walk) (loop-test .taken) (c .before .before .wide3 .ensures)
 
 loop-again-2 : tie.Need-loop-again-2 Inv-loop μ-loop
-loop-again-2 c = (
-  moved (sym (c .before .before .wide3 .ensures)) (fell-set _ _ _
-      (c .before .before .before .before .before .before .before .before .before .before .before .before .before .before .before .before .before .before .before .before .before .before .pre .0)
-      _ _
-      (c .before .before .before .before .before .before .before .before .before .before .before .before .before .before .before .before .before .before .before .before .before .before .pre .1 .1 .1 .0)
-      _ _ _ _ _ _ _ _ _ _ _ (c .before .before .before .before .before .before .before .loop .inv .0 .0)
-      (c .before .before .before .before .before .before .before .loop .inv .0 .1)
-      (c .before .before .before .before .before .before .loop-test .taken) _
-      (sym (c .before .before .before .before .place .ensures)) refl (slice-write-labels c) (slice-write-lengths c)
-      (slice-write-queue c) (c .if1 .left)),
-  simp length-set (c .before .before .before .before .before .before .before .loop .inv .1),
-  simp length-set (c .before .before .before .before .before .before .before .loop .inv .2),
-  simp length-set (c .before .before .before .before .before .before .before .loop .inv .3),
-)
+loop-again-2 c =
+    let tested = c .before .before .before .before .before .before in
+    let loop = tested .before .loop in
+    let loop-test = tested .loop-test in
+    let begun = tested .before .before .before .before .before .before .before .before in
+    let pre = begun .before .before .before .before .before .before .before .before .pre in (
+      moved (sym (c .before .before .wide3 .ensures))
+          (fell-set (pre .0) (pre .1 .1 .1 .0) (loop .inv .0 .0) (loop .inv .0 .1) (loop-test .taken)
+          (sym (c .before .before .before .before .place .ensures)) refl (slice-write-labels c) (slice-write-lengths c)
+          (slice-write-queue c) (c .if1 .left)),
+      simp length-set (loop .inv .1),
+      simp length-set (loop .inv .2),
+      simp length-set (loop .inv .3),
+    )
 
 same-length : tie.Need-same-length Inv-loop μ-loop
 same-length c = c .before .loop .inv .1

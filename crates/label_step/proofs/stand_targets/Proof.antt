@@ -3,6 +3,7 @@ use mathlib.Core.Path.{_≡_, refl, sym}
 use Prim.Native.Nat.{_+_, _-_}
 use native.Mathlib.Omega.{arith}
 use lib.ListN.{length, length-set}
+use Rattle.pair_chain.proofs.ChainWalks.{walk-lower}
 use Rattle.label_queue.specs.Queue.{Run}
 use Rattle.label_queue.proofs.Runs.{Link, enter, moved, current-place, current-short, left-some, lift-skip, lift-set, queue-room}
 use Rattle.label_queue.proofs.QueueLinks.{target-place}
@@ -76,7 +77,7 @@ shared-slice-read-wide c =
     omega (
       arith,
       current-place _ _ _ _ _ _ _ _ _ _ (pre .1 .1 .1 .1 .0) (pre .1 .1 .1 .1 .1) (c .before .before .wide .ensures),
-      pre .1 .1 .0 .head-room,
+      pre .1 .1 .1 .0 .head-room,
     )
 
 wide-requires-2 : tie.Need-wide-requires-2 Inv-loop μ-loop
@@ -99,12 +100,12 @@ sub-place c = omega (arith, c .loop-test .taken)
 mul-place : tie.Need-mul-place Inv-loop μ-loop
 mul-place c =
     let pre = c .before .before .before .before .before .before .before .before .before .before .before .before .before .before .before .before .pre in
-    omega (arith, c .before .loop .inv .0 .1 .low, pre .0 .few-pairs)
+    omega (arith, c .before .loop .inv .0 .1 .walk .low, pre .0 .few-pairs)
 
 shared-slice-read-place : tie.Need-shared-slice-read-place Inv-loop μ-loop
 shared-slice-read-place c =
     let pre = c .before .before .before .before .before .before .before .before .before .before .before .before .before .before .before .before .before .pre in
-    omega (arith, c .before .loop-test .taken, c .before .before .loop .inv .0 .1 .low, pre .0 .order .paired)
+    omega (arith, c .before .loop-test .taken, c .before .before .loop .inv .0 .1 .walk .low, pre .0 .order .paired)
 
 place-requires : tie.Need-place-requires Inv-loop μ-loop
 place-requires c κs = search needs
@@ -115,7 +116,7 @@ sub-wide c = omega (arith, c .before .before .loop-test .taken)
 mul-wide-3 : tie.Need-mul-wide-3 Inv-loop μ-loop
 mul-wide-3 c =
     let pre = c .before .before .before .before .before .before .before .before .before .before .before .before .before .before .before .before .before .before .pre in
-    omega (arith, c .before .before .before .loop .inv .0 .1 .low, pre .0 .few-pairs)
+    omega (arith, c .before .before .before .loop .inv .0 .1 .walk .low, pre .0 .few-pairs)
 
 shared-slice-read-wide-2 : tie.Need-shared-slice-read-wide-2 Inv-loop μ-loop
 shared-slice-read-wide-2 c =
@@ -123,8 +124,8 @@ shared-slice-read-wide-2 c =
     omega (
       arith,
       c .before .before .before .loop-test .taken,
-      c .before .before .before .before .loop .inv .0 .1 .low,
-      pre .1 .1 .0 .next-room,
+      c .before .before .before .before .loop .inv .0 .1 .walk .low,
+      pre .1 .1 .1 .0 .next-room,
     )
 
 wide-requires-3 : tie.Need-wide-requires-3 Inv-loop μ-loop
@@ -139,7 +140,7 @@ mul-n c =
       target-place _ _ _ (pre .0) _ _ (omega (
         arith,
         c .before .before .before .before .loop-test .taken,
-        loop .inv .0 .1 .low,
+        loop .inv .0 .1 .walk .low,
       )) (c .before .before .place .ensures),
       pre .0 .few-marks,
     )
@@ -151,7 +152,7 @@ slice-read-n c =
     let loop-test = c .before .before .before .before .before .loop-test in
     omega (
       arith,
-      target-place _ _ _ (pre .0) _ _ (omega (arith, loop-test .taken, loop .inv .0 .1 .low))
+      target-place _ _ _ (pre .0) _ _ (omega (arith, loop-test .taken, loop .inv .0 .1 .walk .low))
           (c .before .before .before .place .ensures),
       loop .inv .4,
       pre .1 .1 .0 .left-room,
@@ -164,8 +165,8 @@ sub-n c =
     let loop-test = c .before .before .before .before .before .loop-test in
     omega (
       arith,
-      left-some _ _ _ (pre .0) _ _ (pre .1 .1 .1 .0) _ _ _ _ _ _ _ _ _ _ _ (loop .inv .0 .0) (loop .inv .0 .1)
-          (loop-test .taken) _ (sym (c .before .before .before .place .ensures)),
+      left-some (pre .0) (pre .1 .1 .1 .0) (loop .inv .0 .0) (loop .inv .0 .1) (loop-test .taken)
+          (sym (c .before .before .before .place .ensures)),
     )
 
 mul-left : tie.Need-mul-left Inv-loop μ-loop
@@ -175,7 +176,7 @@ mul-left c =
     let loop-test = c .before .before .before .before .before .loop-test in
     omega (
       arith,
-      target-place _ _ _ (pre .0) _ _ (omega (arith, loop-test .taken, loop .inv .0 .1 .low))
+      target-place _ _ _ (pre .0) _ _ (omega (arith, loop-test .taken, loop .inv .0 .1 .walk .low))
           (c .before .before .before .place .ensures),
       pre .0 .few-marks,
     )
@@ -187,7 +188,7 @@ slice-write-left c =
     let loop-test = c .before .before .before .before .before .loop-test in
     omega (
       arith,
-      target-place _ _ _ (pre .0) _ _ (omega (arith, loop-test .taken, loop .inv .0 .1 .low))
+      target-place _ _ _ (pre .0) _ _ (omega (arith, loop-test .taken, loop .inv .0 .1 .walk .low))
           (c .before .before .before .place .ensures),
       loop .inv .4,
       pre .1 .1 .0 .left-room,
@@ -198,53 +199,36 @@ loop-less c =
     let pre = c .before .before .before .before .before .before .before .before .before .before .before .before .before .before .before .before .before .before .before .before .before .before .pre in
     let loop = c .before .before .before .before .before .before .before .loop in
     let loop-test = c .before .before .before .before .before .before .loop-test in
-    omega (
-      arith,
-      pre .1 .1 .1 .0 .next-low (loop .c - 1) (omega (arith, loop-test .taken, loop .inv .0 .1 .low)),
-      loop-test .taken,
-      c .before .before .wide3 .ensures,
-    )
+    walk-lower (pre .1 .1 .1 .0 .chained) (loop .inv .0 .1 .walk) (loop-test .taken) (c .before .before .wide3 .ensures)
 
 loop-again : tie.Need-loop-again Inv-loop μ-loop
-loop-again c = (
-  moved (sym (c .before .before .wide3 .ensures)) (lift-skip _ _ _
-      (c .before .before .before .before .before .before .before .before .before .before .before .before .before .before .before .before .before .before .before .before .before .before .pre .0)
-      _ _
-      (c .before .before .before .before .before .before .before .before .before .before .before .before .before .before .before .before .before .before .before .before .before .before .pre .1 .1 .1 .0)
-      _ _ _ _ _ _ _ _ _ _ _ (c .before .before .before .before .before .before .before .loop .inv .0 .0)
-      (c .before .before .before .before .before .before .before .loop .inv .0 .1)
-      (c .before .before .before .before .before .before .loop-test .taken) _
-      (sym (c .before .before .before .before .place .ensures)) _
-      (omega (
-        arith,
-        left-some _ _ _
-            (c .before .before .before .before .before .before .before .before .before .before .before .before .before .before .before .before .before .before .before .before .before .before .pre .0)
-            _ _
-            (c .before .before .before .before .before .before .before .before .before .before .before .before .before .before .before .before .before .before .before .before .before .before .pre .1 .1 .1 .0)
-            _ _ _ _ _ _ _ _ _ _ _ (c .before .before .before .before .before .before .before .loop .inv .0 .0)
-            (c .before .before .before .before .before .before .before .loop .inv .0 .1)
-            (c .before .before .before .before .before .before .loop-test .taken) _
-            (sym (c .before .before .before .before .place .ensures)),
-      )) refl
-      (omega (
-        arith,
-        target-place _ _ _
-            (c .before .before .before .before .before .before .before .before .before .before .before .before .before .before .before .before .before .before .before .before .before .before .pre .0)
-            _ _ (omega (
-              arith,
-              c .before .before .before .before .before .before .loop-test .taken,
-              c .before .before .before .before .before .before .before .loop .inv .0 .1 .low,
-            ))
-            (c .before .before .before .before .place .ensures),
-        c .before .before .before .before .before .before .before .loop .inv .4,
-        c .before .before .before .before .before .before .before .before .before .before .before .before .before .before .before .before .before .before .before .before .before .before .pre .1 .1 .0 .left-room,
-      ))
-      (λ _ n0 _. c .if1 .taken n0)),
-  c .before .before .before .before .before .before .before .loop .inv .1,
-  c .before .before .before .before .before .before .before .loop .inv .2,
-  c .before .before .before .before .before .before .before .loop .inv .3,
-  simp length-set (c .before .before .before .before .before .before .before .loop .inv .4),
-)
+loop-again c =
+    let tested = c .before .before .before .before .before .before in
+    let loop = tested .before .loop in
+    let loop-test = tested .loop-test in
+    let begun = tested .before .before .before .before .before .before .before .before in
+    let pre = begun .before .before .before .before .before .before .before .before .pre in (
+      moved (sym (c .before .before .wide3 .ensures))
+          (lift-skip (pre .0) (pre .1 .1 .1 .0) (loop .inv .0 .0) (loop .inv .0 .1) (loop-test .taken)
+          (sym (c .before .before .before .before .place .ensures)) _
+          (omega (
+            arith,
+            left-some (pre .0) (pre .1 .1 .1 .0) (loop .inv .0 .0) (loop .inv .0 .1) (loop-test .taken)
+                (sym (c .before .before .before .before .place .ensures)),
+          )) refl
+          (omega (
+            arith,
+            target-place _ _ _ (pre .0) _ _ (omega (arith, loop-test .taken, loop .inv .0 .1 .walk .low))
+                (c .before .before .before .before .place .ensures),
+            loop .inv .4,
+            pre .1 .1 .0 .left-room,
+          ))
+          (λ _ n0 _. c .if1 .taken n0)),
+      loop .inv .1,
+      loop .inv .2,
+      loop .inv .3,
+      simp length-set (loop .inv .4),
+    )
 
 shared-slice-read-if2 : tie.Need-shared-slice-read-if2 Inv-loop μ-loop
 shared-slice-read-if2 c =
@@ -252,61 +236,44 @@ shared-slice-read-if2 c =
     let loop = c .before .before .before .before .before .before .before .before .loop in
     let loop-test = c .before .before .before .before .before .before .before .loop-test in
     let place = c .before .before .before .before .before .place in
-    target-place _ _ _ (pre .0) _ _ (omega (arith, loop-test .taken, loop .inv .0 .1 .low)) (place .ensures)
+    target-place _ _ _ (pre .0) _ _ (omega (arith, loop-test .taken, loop .inv .0 .1 .walk .low)) (place .ensures)
 
 loop-less-2 : tie.Need-loop-less-2 Inv-loop μ-loop
 loop-less-2 c =
     let pre = c .before .before .before .before .before .before .before .before .before .before .before .before .before .before .before .before .before .before .before .before .before .before .before .before .pre in
     let loop = c .before .before .before .before .before .before .before .before .before .loop in
     let loop-test = c .before .before .before .before .before .before .before .before .loop-test in
-    omega (
-      arith,
-      pre .1 .1 .1 .0 .next-low (loop .c - 1) (omega (arith, loop-test .taken, loop .inv .0 .1 .low)),
-      loop-test .taken,
-      c .before .before .before .before .wide3 .ensures,
-    )
+    walk-lower (pre .1 .1 .1 .0 .chained) (loop .inv .0 .1 .walk) (loop-test .taken)
+    (c .before .before .before .before .wide3 .ensures)
 
 loop-again-2 : tie.Need-loop-again-2 Inv-loop μ-loop
-loop-again-2 c = (
-  moved (sym (c .before .before .before .before .wide3 .ensures))
-      (lift-skip _ _ _
-      (c .before .before .before .before .before .before .before .before .before .before .before .before .before .before .before .before .before .before .before .before .before .before .before .before .pre .0)
-      _ _
-      (c .before .before .before .before .before .before .before .before .before .before .before .before .before .before .before .before .before .before .before .before .before .before .before .before .pre .1 .1 .1 .0)
-      _ _ _ _ _ _ _ _ _ _ _ (c .before .before .before .before .before .before .before .before .before .loop .inv .0 .0)
-      (c .before .before .before .before .before .before .before .before .before .loop .inv .0 .1)
-      (c .before .before .before .before .before .before .before .before .loop-test .taken) _
-      (sym (c .before .before .before .before .before .before .place .ensures)) _
-      (omega (
-        arith,
-        left-some _ _ _
-            (c .before .before .before .before .before .before .before .before .before .before .before .before .before .before .before .before .before .before .before .before .before .before .before .before .pre .0)
-            _ _
-            (c .before .before .before .before .before .before .before .before .before .before .before .before .before .before .before .before .before .before .before .before .before .before .before .before .pre .1 .1 .1 .0)
-            _ _ _ _ _ _ _ _ _ _ _ (c .before .before .before .before .before .before .before .before .before .loop .inv .0 .0)
-            (c .before .before .before .before .before .before .before .before .before .loop .inv .0 .1)
-            (c .before .before .before .before .before .before .before .before .loop-test .taken) _
-            (sym (c .before .before .before .before .before .before .place .ensures)),
-      )) refl
-      (omega (
-        arith,
-        target-place _ _ _
-            (c .before .before .before .before .before .before .before .before .before .before .before .before .before .before .before .before .before .before .before .before .before .before .before .before .pre .0)
-            _ _ (omega (
-              arith,
-              c .before .before .before .before .before .before .before .before .loop-test .taken,
-              c .before .before .before .before .before .before .before .before .before .loop .inv .0 .1 .low,
-            ))
-            (c .before .before .before .before .before .before .place .ensures),
-        c .before .before .before .before .before .before .before .before .before .loop .inv .4,
-        c .before .before .before .before .before .before .before .before .before .before .before .before .before .before .before .before .before .before .before .before .before .before .before .before .pre .1 .1 .0 .left-room,
-      ))
-      (λ m _ _. c .if2 .taken m)),
-  c .before .before .before .before .before .before .before .before .before .loop .inv .1,
-  c .before .before .before .before .before .before .before .before .before .loop .inv .2,
-  c .before .before .before .before .before .before .before .before .before .loop .inv .3,
-  simp length-set (c .before .before .before .before .before .before .before .before .before .loop .inv .4),
-)
+loop-again-2 c =
+    let tested = c .before .before .before .before .before .before .before .before in
+    let loop = tested .before .loop in
+    let loop-test = tested .loop-test in
+    let begun = tested .before .before .before .before .before .before .before .before in
+    let pre = begun .before .before .before .before .before .before .before .before .pre in (
+      moved (sym (c .before .before .before .before .wide3 .ensures))
+          (lift-skip (pre .0) (pre .1 .1 .1 .0) (loop .inv .0 .0) (loop .inv .0 .1) (loop-test .taken)
+          (sym (c .before .before .before .before .before .before .place .ensures)) _
+          (omega (
+            arith,
+            left-some (pre .0) (pre .1 .1 .1 .0) (loop .inv .0 .0) (loop .inv .0 .1) (loop-test .taken)
+                (sym (c .before .before .before .before .before .before .place .ensures)),
+          )) refl
+          (omega (
+            arith,
+            target-place _ _ _ (pre .0) _ _ (omega (arith, loop-test .taken, loop .inv .0 .1 .walk .low))
+                (c .before .before .before .before .before .before .place .ensures),
+            loop .inv .4,
+            pre .1 .1 .0 .left-room,
+          ))
+          (λ m _ _. c .if2 .taken m)),
+      loop .inv .1,
+      loop .inv .2,
+      loop .inv .3,
+      simp length-set (loop .inv .4),
+    )
 
 slice-read-if3 : tie.Need-slice-read-if3 Inv-loop μ-loop
 slice-read-if3 c =
@@ -316,7 +283,7 @@ slice-read-if3 c =
     let place = c .before .before .before .before .before .before .before .place in
     omega (
       arith,
-      target-place _ _ _ (pre .0) _ _ (omega (arith, loop-test .taken, loop .inv .0 .1 .low)) (place .ensures),
+      target-place _ _ _ (pre .0) _ _ (omega (arith, loop-test .taken, loop .inv .0 .1 .walk .low)) (place .ensures),
       loop .inv .1,
       pre .1 .0 .labels-room,
     )
@@ -327,57 +294,36 @@ loop-less-3 c =
     let loop = c .before .before .before .before .before .before .before .before .before .before .before .loop in
     let loop-test = c .before .before .before .before .before .before .before .before .before .before .loop-test in
     let wide3 = c .before .before .before .before .before .before .wide3 in
-    omega (
-      arith,
-      pre .1 .1 .1 .0 .next-low (loop .c - 1) (omega (arith, loop-test .taken, loop .inv .0 .1 .low)),
-      loop-test .taken,
-      wide3 .ensures,
-    )
+    walk-lower (pre .1 .1 .1 .0 .chained) (loop .inv .0 .1 .walk) (loop-test .taken) (wide3 .ensures)
 
 loop-again-3 : tie.Need-loop-again-3 Inv-loop μ-loop
-loop-again-3 c = (
-  moved (sym (c .before .before .before .before .before .before .wide3 .ensures))
-      (lift-skip _ _ _
-      (c .before .before .before .before .before .before .before .before .before .before .before .before .before .before .before .before .before .before .before .before .before .before .before .before .before .before .pre .0)
-      _ _
-      (c .before .before .before .before .before .before .before .before .before .before .before .before .before .before .before .before .before .before .before .before .before .before .before .before .before .before .pre .1 .1 .1 .0)
-      _ _ _ _ _ _ _ _ _ _ _
-      (c .before .before .before .before .before .before .before .before .before .before .before .loop .inv .0 .0)
-      (c .before .before .before .before .before .before .before .before .before .before .before .loop .inv .0 .1)
-      (c .before .before .before .before .before .before .before .before .before .before .loop-test .taken) _
-      (sym (c .before .before .before .before .before .before .before .before .place .ensures)) _
-      (omega (
-        arith,
-        left-some _ _ _
-            (c .before .before .before .before .before .before .before .before .before .before .before .before .before .before .before .before .before .before .before .before .before .before .before .before .before .before .pre .0)
-            _ _
-            (c .before .before .before .before .before .before .before .before .before .before .before .before .before .before .before .before .before .before .before .before .before .before .before .before .before .before .pre .1 .1 .1 .0)
-            _ _ _ _ _ _ _ _ _ _ _
-            (c .before .before .before .before .before .before .before .before .before .before .before .loop .inv .0 .0)
-            (c .before .before .before .before .before .before .before .before .before .before .before .loop .inv .0 .1)
-            (c .before .before .before .before .before .before .before .before .before .before .loop-test .taken) _
-            (sym (c .before .before .before .before .before .before .before .before .place .ensures)),
-      )) refl
-      (omega (
-        arith,
-        target-place _ _ _
-            (c .before .before .before .before .before .before .before .before .before .before .before .before .before .before .before .before .before .before .before .before .before .before .before .before .before .before .pre .0)
-            _ _
-            (omega (
-              arith,
-              c .before .before .before .before .before .before .before .before .before .before .loop-test .taken,
-              c .before .before .before .before .before .before .before .before .before .before .before .loop .inv .0 .1 .low,
-            ))
-            (c .before .before .before .before .before .before .before .before .place .ensures),
-        c .before .before .before .before .before .before .before .before .before .before .before .loop .inv .4,
-        c .before .before .before .before .before .before .before .before .before .before .before .before .before .before .before .before .before .before .before .before .before .before .before .before .before .before .pre .1 .1 .0 .left-room,
-      ))
-      (λ _ _ l. c .if3 .taken l)),
-  c .before .before .before .before .before .before .before .before .before .before .before .loop .inv .1,
-  c .before .before .before .before .before .before .before .before .before .before .before .loop .inv .2,
-  c .before .before .before .before .before .before .before .before .before .before .before .loop .inv .3,
-  simp length-set (c .before .before .before .before .before .before .before .before .before .before .before .loop .inv .4),
-)
+loop-again-3 c =
+    let tested = c .before .before .before .before .before .before .before .before .before .before in
+    let loop = tested .before .loop in
+    let loop-test = tested .loop-test in
+    let begun = tested .before .before .before .before .before .before .before .before in
+    let pre = begun .before .before .before .before .before .before .before .before .pre in (
+      moved (sym (c .before .before .before .before .before .before .wide3 .ensures))
+          (lift-skip (pre .0) (pre .1 .1 .1 .0) (loop .inv .0 .0) (loop .inv .0 .1) (loop-test .taken)
+          (sym (c .before .before .before .before .before .before .before .before .place .ensures)) _
+          (omega (
+            arith,
+            left-some (pre .0) (pre .1 .1 .1 .0) (loop .inv .0 .0) (loop .inv .0 .1) (loop-test .taken)
+                (sym (c .before .before .before .before .before .before .before .before .place .ensures)),
+          )) refl
+          (omega (
+            arith,
+            target-place _ _ _ (pre .0) _ _ (omega (arith, loop-test .taken, loop .inv .0 .1 .walk .low))
+                (c .before .before .before .before .before .before .before .before .place .ensures),
+            loop .inv .4,
+            pre .1 .1 .0 .left-room,
+          ))
+          (λ _ _ l. c .if3 .taken l)),
+      loop .inv .1,
+      loop .inv .2,
+      loop .inv .3,
+      simp length-set (loop .inv .4),
+    )
 
 slice-write-labels : tie.Need-slice-write-labels Inv-loop μ-loop
 slice-write-labels c =
@@ -387,7 +333,7 @@ slice-write-labels c =
     let place = c .before .before .before .before .before .before .before .before .place in
     omega (
       arith,
-      target-place _ _ _ (pre .0) _ _ (omega (arith, loop-test .taken, loop .inv .0 .1 .low)) (place .ensures),
+      target-place _ _ _ (pre .0) _ _ (omega (arith, loop-test .taken, loop .inv .0 .1 .walk .low)) (place .ensures),
       loop .inv .1,
       pre .1 .0 .labels-room,
     )
@@ -400,7 +346,7 @@ mul-lengths c =
     let place = c .before .before .before .before .before .before .before .before .place in
     omega (
       arith,
-      target-place _ _ _ (pre .0) _ _ (omega (arith, loop-test .taken, loop .inv .0 .1 .low)) (place .ensures),
+      target-place _ _ _ (pre .0) _ _ (omega (arith, loop-test .taken, loop .inv .0 .1 .walk .low)) (place .ensures),
       pre .0 .few-marks,
     )
 
@@ -412,7 +358,7 @@ slice-write-lengths c =
     let place = c .before .before .before .before .before .before .before .before .place in
     omega (
       arith,
-      target-place _ _ _ (pre .0) _ _ (omega (arith, loop-test .taken, loop .inv .0 .1 .low)) (place .ensures),
+      target-place _ _ _ (pre .0) _ _ (omega (arith, loop-test .taken, loop .inv .0 .1 .walk .low)) (place .ensures),
       loop .inv .2,
       pre .1 .0 .lengths-room,
     )
@@ -425,7 +371,7 @@ cast-queue c =
     let place = c .before .before .before .before .before .before .before .before .place in
     omega (
       arith,
-      target-place _ _ _ (pre .0) _ _ (omega (arith, loop-test .taken, loop .inv .0 .1 .low)) (place .ensures),
+      target-place _ _ _ (pre .0) _ _ (omega (arith, loop-test .taken, loop .inv .0 .1 .walk .low)) (place .ensures),
       pre .0 .few-marks,
     )
 
@@ -441,7 +387,7 @@ slice-write-queue c =
     let loop = c .before .before .before .before .before .before .before .before .before .before .before .loop in
     let loop-test = c .before .before .before .before .before .before .before .before .before .before .loop-test in
     let place = c .before .before .before .before .before .before .before .before .place in
-    queue-room _ _ _ (pre .0) _ _ (pre .1 .1 .1 .0) _ _ _ _ _ _ _ _ _ _ _ (loop .inv .0 .0) (loop .inv .0 .1) (loop-test .taken) _
+    queue-room (pre .0) (pre .1 .1 .1 .0) (loop .inv .0 .0) (loop .inv .0 .1) (loop-test .taken)
     (sym (place .ensures)) (slice-write-labels c) (omega (arith, loop .inv .3, pre .1 .1 .0 .queue-room)) (c .if3 .left)
 
 add-t : tie.Need-add-t Inv-loop μ-loop
@@ -456,58 +402,37 @@ loop-less-4 c =
     let loop = c .before .before .before .before .before .before .before .before .before .before .before .loop in
     let loop-test = c .before .before .before .before .before .before .before .before .before .before .loop-test in
     let wide3 = c .before .before .before .before .before .before .wide3 in
-    omega (
-      arith,
-      pre .1 .1 .1 .0 .next-low (loop .c - 1) (omega (arith, loop-test .taken, loop .inv .0 .1 .low)),
-      loop-test .taken,
-      wide3 .ensures,
-    )
+    walk-lower (pre .1 .1 .1 .0 .chained) (loop .inv .0 .1 .walk) (loop-test .taken) (wide3 .ensures)
 
 loop-again-4 : tie.Need-loop-again-4 Inv-loop μ-loop
-loop-again-4 c = (
-  moved (sym (c .before .before .before .before .before .before .wide3 .ensures))
-      (lift-set _ _ _
-      (c .before .before .before .before .before .before .before .before .before .before .before .before .before .before .before .before .before .before .before .before .before .before .before .before .before .before .pre .0)
-      _ _
-      (c .before .before .before .before .before .before .before .before .before .before .before .before .before .before .before .before .before .before .before .before .before .before .before .before .before .before .pre .1 .1 .1 .0)
-      _ _ _ _ _ _ _ _ _ _ _
-      (c .before .before .before .before .before .before .before .before .before .before .before .loop .inv .0 .0)
-      (c .before .before .before .before .before .before .before .before .before .before .before .loop .inv .0 .1)
-      (c .before .before .before .before .before .before .before .before .before .before .loop-test .taken) _
-      (sym (c .before .before .before .before .before .before .before .before .place .ensures)) _
-      (omega (
-        arith,
-        left-some _ _ _
-            (c .before .before .before .before .before .before .before .before .before .before .before .before .before .before .before .before .before .before .before .before .before .before .before .before .before .before .pre .0)
-            _ _
-            (c .before .before .before .before .before .before .before .before .before .before .before .before .before .before .before .before .before .before .before .before .before .before .before .before .before .before .pre .1 .1 .1 .0)
-            _ _ _ _ _ _ _ _ _ _ _
-            (c .before .before .before .before .before .before .before .before .before .before .before .loop .inv .0 .0)
-            (c .before .before .before .before .before .before .before .before .before .before .before .loop .inv .0 .1)
-            (c .before .before .before .before .before .before .before .before .before .before .loop-test .taken) _
-            (sym (c .before .before .before .before .before .before .before .before .place .ensures)),
-      )) refl
-      (omega (
-        arith,
-        target-place _ _ _
-            (c .before .before .before .before .before .before .before .before .before .before .before .before .before .before .before .before .before .before .before .before .before .before .before .before .before .before .pre .0)
-            _ _
-            (omega (
-              arith,
-              c .before .before .before .before .before .before .before .before .before .before .loop-test .taken,
-              c .before .before .before .before .before .before .before .before .before .before .before .loop .inv .0 .1 .low,
-            ))
-            (c .before .before .before .before .before .before .before .before .place .ensures),
-        c .before .before .before .before .before .before .before .before .before .before .before .loop .inv .4,
-        c .before .before .before .before .before .before .before .before .before .before .before .before .before .before .before .before .before .before .before .before .before .before .before .before .before .before .pre .1 .1 .0 .left-room,
-      ))
-      (slice-write-labels c) (slice-write-lengths c) (slice-write-queue c) (c .before .before .before .before .if1 .left)
-      (c .before .before .if2 .left) (c .if3 .left)),
-  simp length-set (c .before .before .before .before .before .before .before .before .before .before .before .loop .inv .1),
-  simp length-set (c .before .before .before .before .before .before .before .before .before .before .before .loop .inv .2),
-  simp length-set (c .before .before .before .before .before .before .before .before .before .before .before .loop .inv .3),
-  simp length-set (c .before .before .before .before .before .before .before .before .before .before .before .loop .inv .4),
-)
+loop-again-4 c =
+    let tested = c .before .before .before .before .before .before .before .before .before .before in
+    let loop = tested .before .loop in
+    let loop-test = tested .loop-test in
+    let begun = tested .before .before .before .before .before .before .before .before in
+    let pre = begun .before .before .before .before .before .before .before .before .pre in (
+      moved (sym (c .before .before .before .before .before .before .wide3 .ensures))
+          (lift-set (pre .0) (pre .1 .1 .1 .0) (loop .inv .0 .0) (loop .inv .0 .1) (loop-test .taken)
+          (sym (c .before .before .before .before .before .before .before .before .place .ensures)) _
+          (omega (
+            arith,
+            left-some (pre .0) (pre .1 .1 .1 .0) (loop .inv .0 .0) (loop .inv .0 .1) (loop-test .taken)
+                (sym (c .before .before .before .before .before .before .before .before .place .ensures)),
+          )) refl
+          (omega (
+            arith,
+            target-place _ _ _ (pre .0) _ _ (omega (arith, loop-test .taken, loop .inv .0 .1 .walk .low))
+                (c .before .before .before .before .before .before .before .before .place .ensures),
+            loop .inv .4,
+            pre .1 .1 .0 .left-room,
+          ))
+          (slice-write-labels c) (slice-write-lengths c) (slice-write-queue c) (c .before .before .before .before .if1 .left)
+          (c .before .before .if2 .left) (c .if3 .left)),
+      simp length-set (loop .inv .1),
+      simp length-set (loop .inv .2),
+      simp length-set (loop .inv .3),
+      simp length-set (loop .inv .4),
+    )
 
 same-length : tie.Need-same-length Inv-loop μ-loop
 same-length c = c .before .loop .inv .4

@@ -5,7 +5,7 @@ use Prim.Native.Nat.{ℕ, _-_, _≤_, _<_}
 use native.Mathlib.Omega.{arith}
 use lib.ListN.{length}
 use Rattle.game.proofs.Find.{further, found-none, found-here}
-use Rattle.pair_words.specs.Linked.{objectorsIn, targetsIn}
+use Rattle.pair_words.specs.Words.{objectorsIn, targetsIn}
 use Rattle.pair_words.proofs.Views.{objectors-length, targets-length}
 use Rattle.pair_repeat.specs.Entered.{Entered}
 use Rattle.pair_repeat.proofs.Unpacked.{Copied, copied-more}

@@ -2,7 +2,7 @@
 use mathlib.Core.Path.{_∙_, ap}
 use native.Mathlib.Omega.{arith}
 use Rattle.register.specs.declared.Line.{Line}
-use Rattle.pair_words.specs.Linked.{objectorsIn, targetsIn}
+use Rattle.pair_words.specs.Words.{objectorsIn, targetsIn}
 use Rattle.pair_words.proofs.Views.{objectors-length, targets-length}
 use Rattle.mend_text.specs.declared.AnyLine.the-variants.{Good}
 use Rattle.mend_text.proofs.Passing.{over-unended, over-spoiled, over-statement, over-objection}

@@ -4,7 +4,7 @@ use mathlib.Core.Path.{_≡_, refl, subst, _∙_}
 use Prim.Native.Nat.{_-_, _≤_}
 use native.Mathlib.Omega.{arith}
 use lib.ListN.{length}
-use Rattle.pair_words.specs.Linked.{objectorsIn, targetsIn}
+use Rattle.pair_words.specs.Words.{objectorsIn, targetsIn}
 use Rattle.pair_repeat.specs.Entered.{Entered}
 use Rattle.mend.specs.TextLines.{TextLine}
 use Rattle.mend.proofs.TextLines.{lines-once, few-lines}

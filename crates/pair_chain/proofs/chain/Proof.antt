@@ -2,22 +2,23 @@
 use mathlib.Core.Path.{_≡_, refl, sym}
 use Prim.Native.Nat.{_-_, _≤_}
 use native.Mathlib.Omega.{arith}
-use lib.ListN.{length, length-set}
-use Rattle.pair_chain.specs.Chained.{Chained}
-use Rattle.pair_chain.proofs.ChainSteps.{chained-none, chained-more}
+use lib.ListN.{length, getD, length-set}
+use Rattle.pair_chain.specs.Linked.{Linked}
+use Rattle.pair_chain.proofs.ChainSteps.{stored, linked-none, linked-more}
 use borrow.Author.Needs.{needs}
 use Rattle.pair_chain.proofs.chain.Statement.{statement}
 use Rattle.pair_chain.proofs.chain.Tie as tie
 
 abbrev Inv-loop : tie.InvT-loop
 Inv-loop places head₀ next₀ e₀ head next e =
-    (e ≤ length places) × (length head ≡ length head₀) × (length next ≡ length next₀) × Chained places e head next
+    (e ≤ length places) × (length head ≡ length head₀) × (length next ≡ length next₀)
+    × Linked places (length head) e (λ x. getD head x 0) (λ d. getD next d 0)
 
 abbrev μ-loop : tie.MeasureT-loop
 μ-loop places head₀ next₀ e₀ head next e = length places - e
 
 loop-holds : tie.Need-loop-holds Inv-loop μ-loop
-loop-holds c = (search needs, refl, refl, chained-none _ _ _ (c .before .before .before .pre .1 .1))
+loop-holds c = (search needs, refl, refl, linked-none (λ v h. c .before .before .before .pre .1 .1 v))
 
 mul-place : tie.Need-mul-place Inv-loop μ-loop
 mul-place c = search needs
@@ -92,7 +93,8 @@ loop-again c =
       search needs,
       simp length-set (loop .inv .1),
       simp length-set (loop .inv .2),
-      chained-more _ _ _ _ _ (loop .inv .3) (sym (c .before .place .ensures)) (slice-write-head c) (slice-write-next c),
+      rw length-set (linked-more (loop .inv .3) (slice-write-head c) (sym (c .before .place .ensures))
+          (λ u h. stored (loop .head) _ _ (slice-write-head c) u) (λ d h. stored (loop .next) _ _ (slice-write-next c) d)),
     )
 
 same-length : tie.Need-same-length Inv-loop μ-loop

@@ -3,7 +3,7 @@ use mathlib.Core.Path.{_≡_, refl, _∙_}
 use Prim.Native.Nat.{ℕ, _-_, _≤_, _<_}
 use native.Mathlib.Omega.{arith}
 use lib.ListN.{length}
-use Rattle.pair_words.specs.Linked.{beginAgainst, beginBy}
+use Rattle.pair_words.specs.Words.{beginAgainst, beginBy}
 use Rattle.pair_repeat.proofs.Entered.{none-more}
 use borrow.Author.Needs.{needs}
 use Rattle.pair_repeat.proofs.clear.Statement.{statement}

@@ -2,7 +2,7 @@
 use mathlib.Core.Path.{sym, ap, subst₂, _∙_}
 use Prim.Native.Nat.{_+_}
 use native.Mathlib.Omega.{arith}
-use Rattle.pair_words.specs.Linked.{objectorsIn, targetsIn, withPair, withLinkBy, withBegins}
+use Rattle.pair_words.specs.Words.{objectorsIn, targetsIn, withPair, withLinkBy, withBegins}
 use Rattle.pair_repeat.specs.Entered.{Entered}
 use Rattle.pair_repeat.proofs.Entered.{earlier, objectors-more, targets-more, chains-more}
 use borrow.Author.Needs.{needs}

@@ -4,7 +4,7 @@ use Prim.Native.Nat.{ℕ, _-_, _/_, _%_, _≤_}
 use native.Mathlib.Omega.{arith}
 use lib.ListN.{length, getD, length-set}
 use lib.Seq.{getD-set-other}
-use Rattle.pair_words.specs.Linked.{objectorsIn, targetsIn}
+use Rattle.pair_words.specs.Words.{objectorsIn, targetsIn}
 use Rattle.pair_words.proofs.Views.{objector-at, target-at, objectors-length, targets-length}
 use Rattle.pair_repeat.proofs.Unpacked.{Copied, copied-more, given-back}
 use borrow.Author.Needs.{needs}

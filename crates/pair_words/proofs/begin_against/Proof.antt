@@ -1,5 +1,5 @@
 -- `begin_against` reads the high part of the word for a target.
-use Rattle.pair_words.specs.Linked.{high, beginAgainst}
+use Rattle.pair_words.specs.Words.{high, beginAgainst}
 use borrow.Author.Needs.{needs}
 use Rattle.pair_words.proofs.begin_against.Statement.{statement}
 use Rattle.pair_words.proofs.begin_against.Tie as tie

@@ -1,5 +1,5 @@
 -- `begin_by` reads the high part of the word for an objector.
-use Rattle.pair_words.specs.Linked.{high, beginBy}
+use Rattle.pair_words.specs.Words.{high, beginBy}
 use borrow.Author.Needs.{needs}
 use Rattle.pair_words.proofs.begin_by.Statement.{statement}
 use Rattle.pair_words.proofs.begin_by.Tie as tie

@@ -1,7 +1,7 @@
 -- `link_against` reads the highest part of a word.
 use mathlib.Core.Path.{ap}
 use Prim.Native.Nat.{_/_}
-use Rattle.pair_words.specs.Linked.{linkAgainst}
+use Rattle.pair_words.specs.Words.{linkAgainst}
 use borrow.Author.Needs.{needs}
 use Rattle.pair_words.proofs.link_against.Statement.{statement}
 use Rattle.pair_words.proofs.link_against.Tie as tie

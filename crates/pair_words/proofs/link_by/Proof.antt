@@ -1,7 +1,7 @@
 -- `link_by` reads a low part, or a high one for the last entries.
 use mathlib.Core.Path.{sym, _∙_}
 use native.Mathlib.Omega.{arith}
-use Rattle.pair_words.specs.Linked.{low, high}
+use Rattle.pair_words.specs.Words.{low, high}
 use Rattle.pair_words.proofs.Views.{link-low, link-high}
 use borrow.Author.Needs.{needs}
 use Rattle.pair_words.proofs.link_by.Statement.{statement}

@@ -1,7 +1,7 @@
 -- `put_begins` stores two high parts.
 use mathlib.Core.Path.{ap, _∙_}
 use Prim.Native.Nat.{_+_, _*_}
-use Rattle.pair_words.specs.Linked.{withHigh, withBegins}
+use Rattle.pair_words.specs.Words.{withHigh, withBegins}
 use borrow.Author.Needs.{needs}
 use Rattle.pair_words.proofs.put_begins.Statement.{statement}
 use Rattle.pair_words.proofs.put_begins.Tie as tie

@@ -1,6 +1,6 @@
 -- `put_high` stores a high part above the low one.
 use mathlib.Core.Path.{refl}
-use Rattle.pair_words.specs.Linked.{withHigh}
+use Rattle.pair_words.specs.Words.{withHigh}
 use borrow.Author.Needs.{needs}
 use Rattle.pair_words.proofs.put_high.Statement.{statement}
 use Rattle.pair_words.proofs.put_high.Tie as tie

@@ -2,7 +2,7 @@
 use mathlib.Core.Path.{ap}
 use Prim.Native.Nat.{_+_, _*_}
 use lib.ListN.{set}
-use Rattle.pair_words.specs.Linked.{withLow}
+use Rattle.pair_words.specs.Words.{withLow}
 use borrow.Author.Needs.{needs}
 use Rattle.pair_words.proofs.put_low.Statement.{statement}
 use Rattle.pair_words.proofs.put_low.Tie as tie

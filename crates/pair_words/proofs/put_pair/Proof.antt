@@ -1,6 +1,6 @@
 -- `put_pair` stores a whole word.
 use mathlib.Core.Path.{refl}
-use Rattle.pair_words.specs.Linked.{withPair}
+use Rattle.pair_words.specs.Words.{withPair}
 use borrow.Author.Needs.{needs}
 use Rattle.pair_words.proofs.put_pair.Statement.{statement}
 use Rattle.pair_words.proofs.put_pair.Tie as tie

@@ -33,7 +33,7 @@ wide-requires c κs = search needs
 loop-holds : tie.Need-loop-holds Inv-loop μ-loop
 loop-holds c =
     let pre = c .before .before .before .before .before .before .before .before .before .before .before .pre in
-    follow-begins _ _ _ _ _ (pre .0 .1) _ _ _ _ _ _ (pre .1 .0) (c .wide .ensures)
+    follow-begins _ _ _ _ _ (pre .0 .1) _ _ _ _ _ (pre .1 .0) (pre .0 .2) (c .wide .ensures)
 
 sub-k : tie.Need-sub-k Inv-loop μ-loop
 sub-k c = search needs
@@ -117,7 +117,7 @@ loop-less c =
     let loop-test = c .before .before .before .before .before .before .before .before .before .before .before .before .before .loop-test in
     let loop = c .before .before .before .before .before .before .before .before .before .before .before .before .before .before .loop in
     let pre = c .before .before .before .before .before .before .before .before .before .before .before .before .before .before .before .before .before .before .before .before .before .before .before .before .before .before .pre in
-    walk-lower _ _ _ (pre .0 .1 .chained) _ _ _ (loop .inv .walk) (loop-test .taken) _ (wide2 .ensures)
+    walk-lower (pre .0 .1 .chained) (loop .inv .walk) (loop-test .taken) (wide2 .ensures)
 
 loop-again : tie.Need-loop-again Inv-loop μ-loop
 loop-again c =
@@ -136,8 +136,8 @@ loop-again c =
 loop-less-2 : tie.Need-loop-less-2 Inv-loop μ-loop
 loop-less-2 c =
     let pre = c .before .before .before .before .before .before .before .before .before .before .before .before .before .before .before .before .before .pre in
-    walk-lower _ _ _ (pre .0 .1 .chained) _ _ _ (c .before .before .before .before .before .loop .inv .walk)
-    (c .before .before .before .before .loop-test .taken) _ (c .before .before .wide2 .ensures)
+    walk-lower (pre .0 .1 .chained) (c .before .before .before .before .before .loop .inv .walk)
+    (c .before .before .before .before .loop-test .taken) (c .before .before .wide2 .ensures)
 
 loop-again-2 : tie.Need-loop-again-2 Inv-loop μ-loop
 loop-again-2 c =

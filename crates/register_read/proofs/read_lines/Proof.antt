@@ -9,7 +9,7 @@ use Rattle.register_line.specs.LineReading.{GotAt}
 use Rattle.register.specs.declared.Line.{Line}
 use Rattle.register.specs.declared.Line.the-variants.{Statement, Objection}
 use Rattle.register_line.specs.declared.Got.the-variants.{Good}
-use Rattle.pair_words.specs.Linked.{objectorsIn, targetsIn}
+use Rattle.pair_words.specs.Words.{objectorsIn, targetsIn}
 use Rattle.pair_words.proofs.Views.{objectors-length, targets-length}
 use Rattle.pair_repeat.specs.Entered.{Entered}
 use Rattle.register_read.proofs.Held.{holds-back}

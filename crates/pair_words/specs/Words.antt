@@ -1,11 +1,9 @@
 -- Two rooms of words that hold objections and link them: each to the latest earlier one against its target, and to the latest
--- earlier one by its objector. An entry is told counted from 1, and 0 tells that there is none. For the code that looks for
--- repeats, not for callers of the product.
+-- earlier one by its objector. An entry is told counted from 1, and 0 tells that there is none. What a chain is, is left to
+-- `pair_chain`. For the code that looks for repeats, not for callers of the product.
 use mathlib.Core.Bool.{cond}
 use mathlib.Core.List.{List, map}
-use mathlib.Core.Logic.{_⊎_}
-use mathlib.Core.Path.{_≡_}
-use Prim.Native.Nat.{ℕ, zero, suc, _+_, _-_, _*_, _/_, _%_, _≤_, _<_}
+use Prim.Native.Nat.{ℕ, _+_, _-_, _*_, _/_, _%_}
 use lib.Dec.{ltb}
 use lib.ListN.{getD, set}
 
@@ -53,20 +51,3 @@ withLinkBy links e l = cond (ltb e 3072) (withLow links e l) (withHigh links (e 
 
 unfoldable pub withBegins : List ℕ → (y x b : ℕ) → List ℕ
 withBegins links y x b = withHigh (withHigh links (1024 + 2 * x) b) (1025 + 2 * y) b
-
--- l tells the latest of the entries before e that has the place v
-pub record Latest (places : List ℕ) (e v l : ℕ) : Type 0 where
-  pub earlier : l ≤ e
-  pub has : (i : ℕ) → i + 1 ≡ l → getD places i 0 ≡ v
-  pub no-later : (i : ℕ) → l ≤ i → i < e → getD places i 0 ≡ v → ⊥
-
--- The first m entries are chained by their places: each place below n begins at the latest of them that has it, and each of them
--- is linked to the latest before it with the same place.
-pub record Linked (places : List ℕ) (n m : ℕ) (begin link : ℕ → ℕ) : Type 0 where
-  pub begins : (v : ℕ) → v < n → Latest places m v (begin v)
-  pub links : (e : ℕ) → e < m → Latest places e (getD places e 0) (link e)
-
--- from the entry that c tells, one meets e in at most so many steps
-unfoldable pub Meets : (link : ℕ → ℕ) → (steps c e : ℕ) → Type 0
-Meets link zero c e = ⊥
-Meets link (suc steps) c e = (e + 1 ≡ c) ⊎ ((0 < c) × Meets link steps (link (c - 1)) e)

@@ -24,6 +24,8 @@ use Rattle.game.proofs.Verdict.{verdict, verdict-means, verdictBy}
 use Rattle.game.proofs.Objection.{never-occurs}
 use Rattle.game.proofs.Reason.{reaching, belonging, within-exactly, counts}
 use Rattle.register.specs.Texts.{decimal, decimalIn}
+use Rattle.register.specs.Number.{numberBytes}
+use Rattle.register.proofs.Number.{numberTest, number-tested}
 use Rattle.register.specs.declared.Mark.the-variants.{Read, Unread}
 use Rattle.register.specs.Register.{Register, numbers, Issued, objectorNumbers, targetNumbers, Valid, written, book, targetsOf}
 use Rattle.register.specs.Register.{objectorsOf, marksOf, bytes, placeOf}
@@ -105,7 +107,7 @@ module _ (R : Register) where
       (i, h, eqb→eq (getD (numbers R) i 0) n e)
 
   numbered : ℕ → Bool
-  numbered i = ltb 0 (getD (numbers R) i 0) && ltb (getD (numbers R) i 0) 100000000
+  numbered i = numberTest (getD (numbers R) i 0)
 
   differ : ℕ → ℕ → Bool
   differ j i = not (eqb (getD (numbers R) i 0) (getD (numbers R) j 0))
@@ -139,11 +141,7 @@ module _ (R : Register) where
         few-statements = leb→le (length (R .statements)) 1024 s;
         few-objections = leb→le (length (R .objections)) 4096 o;
         numbered =
-            λ i h. let (a, b) = both (ltb 0 (getD (numbers R) i 0)) (ltb (getD (numbers R) i 0) 100000000)
-            (all-at (length (numbers R)) numbered n i h) in (
-              ltb→lt 0 (getD (numbers R) i 0) a,
-              ltb→lt (getD (numbers R) i 0) 100000000 b,
-            );
+            λ i h. number-tested (getD (numbers R) i 0) (all-at (length (numbers R)) numbered n i h);
         once =
             λ i j h l q. T-not (eqb (getD (numbers R) i 0) (getD (numbers R) j 0))
             (all-at j (differ j) (all-at (length (numbers R)) (λ j. all j (differ j)) d j l) i h) (equal q);
@@ -404,20 +402,20 @@ pass-is (r ∷ rs) t = let (p, q) = both (passes r) (pass rs) t in (passes-is r 
 -- Every example that 01 marks P holds.
 pub table-holds : Every Says table
 unfolding table ascii extend fields value add guess registerOf same issued numbered differ known distinct ordered accepted
-    verdictAt kindAt listingOf kept added finishing passes pass any all bookOf standsWithin fallsWithin verdict verdictBy decimal
-    decimalIn bytes placeOf numbersRow statementRow statementRows objectionRow objectionRows
+    verdictAt kindAt listingOf kept added finishing passes pass any all bookOf standsWithin fallsWithin verdict verdictBy
+    numberTest numberBytes decimal decimalIn bytes placeOf numbersRow statementRow statementRows objectionRow objectionRows
 table-holds = pass-is table tt
 
 pub reasons-hold : Every Says reasons
 unfolding reasons ascii extend fields value add guess registerOf same issued numbered differ known distinct ordered accepted
-    verdictAt kindAt inside reasonOf named passes pass any all bookOf standsWithin fallsWithin verdict verdictBy decimal decimalIn
-    bytes placeOf statementRow objectionRow objectionRows keep counts belonging reaching
+    verdictAt kindAt inside reasonOf named passes pass any all bookOf standsWithin fallsWithin verdict verdictBy
+    numberTest numberBytes decimal decimalIn bytes placeOf statementRow objectionRow objectionRows keep counts belonging reaching
 reasons-hold = pass-is reasons tt
 
 pub sheets-hold : Every Says sheets
 unfolding sheets ascii extend fields value add guess registerOf same issued numbered differ known distinct ordered accepted
-    verdictAt coded packed codeAt total count passes pass any all bookOf standsWithin fallsWithin verdict verdictBy decimal
-    decimalIn bytes placeOf
+    verdictAt coded packed codeAt total count passes pass any all bookOf standsWithin fallsWithin verdict verdictBy
+    numberTest numberBytes decimal decimalIn bytes placeOf
 sheets-hold = pass-is sheets tt
 
 -- Two of the table's registers by name, for those who need the register itself: the lone read statement, and the chain of four.
@@ -434,9 +432,11 @@ chain = record {
 }
 
 pub lone-accepted : Accepts (ascii "S\t1\tR\n") lone
-unfolding lone ascii same issued numbered differ known distinct ordered accepted any all decimal decimalIn bytes
+unfolding lone ascii same issued numbered differ known distinct ordered accepted any all numberTest
+    numberBytes decimal decimalIn bytes
 lone-accepted = accepted-is (ascii "S\t1\tR\n") lone tt
 
 pub chain-accepted : Accepts (ascii "S\t1\tU\nS\t2\tR\nS\t3\tR\nS\t4\tR\nO\t4\t3\nO\t3\t2\nO\t2\t1\n") chain
-unfolding chain ascii same issued numbered differ known distinct ordered accepted any all decimal decimalIn bytes
+unfolding chain ascii same issued numbered differ known distinct ordered accepted any all numberTest
+    numberBytes decimal decimalIn bytes
 chain-accepted = accepted-is (ascii "S\t1\tU\nS\t2\tR\nS\t3\tR\nS\t4\tR\nO\t4\t3\nO\t3\t2\nO\t2\t1\n") chain tt

@@ -13,7 +13,7 @@ use Rattle.game.specs.declared.Kind.{Kind}
 use Rattle.game.specs.declared.Kind.the-variants.{Idle, Felling, Delaying, Standoff}
 use Rattle.game.proofs.Verdict.{means-unique, Within, length-bound}
 use Rattle.game.proofs.Objection.{kind-unique}
-use Rattle.register.specs.Texts.{decimal}
+use Rattle.register.specs.Number.{numberBytes}
 use Rattle.register.specs.Lines.{lineBytes, markByte}
 use Rattle.register.specs.declared.StatementLine.{StatementLine}
 use Rattle.register.specs.declared.ObjectionLine.{ObjectionLine}
@@ -74,7 +74,7 @@ statement-longer st v h =
       arith,
       statement-length (st .number) v,
       fields v h,
-      length-append (decimal (st .number)) (9 ∷ markByte (st .mark) ∷ 10 ∷ []),
+      length-append (numberBytes (st .number)) (9 ∷ markByte (st .mark) ∷ 10 ∷ []),
     )
   where
     fields : (v : Verdict) → length (lengthField v) ≤ 4 → length (verdictFields v) ≤ 11
@@ -89,8 +89,8 @@ objection-longer o κ h =
       arith,
       objection-length (o .objector) (o .target) κ,
       fields κ h,
-      length-append (decimal (o .objector)) (9 ∷ (decimal (o .target) ++ (10 ∷ []))),
-      length-append (decimal (o .target)) (10 ∷ []),
+      length-append (numberBytes (o .objector)) (9 ∷ (numberBytes (o .target) ++ (10 ∷ []))),
+      length-append (numberBytes (o .target)) (10 ∷ []),
     )
   where
     fields : (κ : Kind) → length (kindField κ) ≤ 4 → length (kindFields κ) ≤ 13

@@ -2,6 +2,8 @@
 // refusal; and the row of an entry of lists that are labelled. Which rows a listing has is left to `listing_write`.
 use game::Kind;
 use pair_chain::place;
+use register_number::number_size;
+use register_number::put_number;
 use room_write::decimal_size;
 use room_write::put_decimal;
 use room_write::put_word;
@@ -42,13 +44,13 @@ fn kind_size(kind: Kind) -> usize
 pub fn statement_size(number: u32, label: u8, turns: u16) -> usize
     ensures { λ r. ⌜ r ≡ length (statementRow number (said label turns)) ⌝ }
 {
-    decimal_size(number) + 1 + verdict_size(label, turns) + 1
+    number_size(number) + 1 + verdict_size(label, turns) + 1
 }
 
 pub fn objection_size(objector: u32, target: u32, kind: Kind) -> usize
     ensures { λ r. ⌜ r ≡ length (objectionRow objector target kind) ⌝ }
 {
-    decimal_size(objector) + 1 + decimal_size(target) + 1 + kind_size(kind) + 1
+    number_size(objector) + 1 + number_size(target) + 1 + kind_size(kind) + 1
 }
 
 pub fn header_size(statements: u32, objections: u32) -> usize
@@ -97,7 +99,7 @@ pub fn put_statement(room: &mut [u8], at: usize, number: u32, label: u8, turns: 
     requires { ⌜ RoomFor (now room) at (statementRow number (said label turns)) ⌝ }
     ensures { λ r. ⌜ Put (now (room .entry)) at (statementRow number (said label turns)) r (now (room .exit)) ⌝ }
 {
-    let tab = put_decimal(room, at, number);
+    let tab = put_number(room, at, number);
     let verdict = put_word(room, tab, b"\t");
     let statement_end = put_verdict(room, verdict, label, turns);
     put_word(room, statement_end, b"\n")
@@ -107,9 +109,9 @@ pub fn put_objection(room: &mut [u8], at: usize, objector: u32, target: u32, kin
     requires { ⌜ RoomFor (now room) at (objectionRow objector target kind) ⌝ }
     ensures { λ r. ⌜ Put (now (room .entry)) at (objectionRow objector target kind) r (now (room .exit)) ⌝ }
 {
-    let first_tab = put_decimal(room, at, objector);
+    let first_tab = put_number(room, at, objector);
     let against = put_word(room, first_tab, b"\t");
-    let second_tab = put_decimal(room, against, target);
+    let second_tab = put_number(room, against, target);
     let fields = put_word(room, second_tab, b"\t");
     let objection_end = put_kind(room, fields, kind);
     put_word(room, objection_end, b"\n")

@@ -2,16 +2,18 @@
 use mathlib.Core.List.{List}
 use mathlib.Core.Logic.{⊎-elim, inl, inr}
 use mathlib.Core.Path.{subst, ap, _∙_}
-use Prim.Native.Nat.{ℕ, _≤_}
+use Prim.Native.Nat.{ℕ, _≤_, _<_}
 use native.Mathlib.Omega.{arith}
-use lib.ListN.{length, take}
+use lib.ListN.{getD, length, take}
 use Rattle.answer.specs.Refusals.{refusalNumber, refusalPlace}
 use Rattle.answer.specs.declared.Refusal.{Refusal}
-use Rattle.register.specs.Register.{Register, Places, Issued}
+use Rattle.register.specs.Register.{Register, Places, Issued, numbers}
 use Rattle.register.specs.Reads.{Accepts}
+use Rattle.register.proofs.Number.{number-above}
 use Rattle.listing.specs.Rows.{refusedRow}
 use Rattle.answer.specs.declared.Answer.{Answer}
 use Rattle.answer.specs.Answer.{RefusedOn, GivenOn}
+use Rattle.register_number.specs.NumberReading.{NumberOf}
 use Rattle.promises.specs.OnText.{TextRefused}
 use Rattle.reason.specs.Reasons.{IsReason}
 use Rattle.promises.specs.ReasonCalls.{ReasonRefused, TextReason, ReasonIn}
@@ -19,13 +21,14 @@ use Rattle.reason.proofs.Reasons.{reason-short}
 use Rattle.program_stream.specs.PutAnswer.{PutOf}
 use Rattle.program_stream.proofs.PutAnswer.{put-shown}
 use Rattle.promises.specs.Programs.{Names, NoneNamed, PrintsRefusal, PrintsReason}
-use Rattle.program_reason.specs.AskedNumber.{AskedBy}
 use Rattle.promises.proofs.Programs.{names-once, fault-printed}
 
-module _ (s argument room : List ℕ) (long : 131072 ≤ length room) (number : ℕ) (asked : AskedBy argument number) where
+module _ (s argument room : List ℕ) (long : 131072 ≤ length room) (number : ℕ) (asked : NumberOf argument number) where
   -- the number of a statement is not 0, so it is the argument's
   named : (R : Register) → Accepts s R → (x : ℕ) → Places R number x → Names argument number
-  named R a x (h, e) = ⊎-elim (λ p. p) (λ (z, none). absurd (omega (arith, z, e, a .valid .numbered x h .0))) asked
+  named R a x (h, e) =
+      let above : 0 < getD (numbers R) x 0 = number-above (getD (numbers R) x 0) (a .valid .numbered x h) in
+      ⊎-elim (λ p. p) (λ (z, none). absurd (omega (arith, z, e, above))) asked
 
   none-named : (R : Register) → ¬ Issued R number → NoneNamed R argument
   none-named R missing n p i =

@@ -14,7 +14,7 @@ use Rattle.listing.specs.Listing.{IsListing}
 use Rattle.listing.proofs.Listing.{listing-once}
 use Rattle.promises.specs.Programs.{Prints, Names, ReasonNamed, NoneNamed, PrintsRefusal, PrintsReason, Outcome, Mends}
 use Rattle.promises.specs.Programs.{no-report, with-report, PrintsFault}
-use Rattle.register.proofs.Number.{decimal-injective}
+use Rattle.register.proofs.Number.{number-injective}
 use Rattle.answer.specs.declared.Refusal.the-variants.{Asked, Text}
 use Rattle.register.proofs.Order.{place-once}
 use Rattle.reason.specs.Reasons.{IsReason}
@@ -40,7 +40,7 @@ printed-once s a b (inr (r, p, e)) (inl (R, q, is)) = absurd (text.not-both s R 
 printed-once s a b (inr p) (inr q) = fault-printed-once s a b p q
 
 pub names-once : (argument : List ℕ) (n m : ℕ) → Names argument n → Names argument m → n ≡ m
-names-once argument n m (h, e) (k, f) = decimal-injective n m (omega (arith, h .1)) (omega (arith, k .1)) (sym e ∙ f)
+names-once argument n m (h, e) (k, f) = number-injective n m h k (sym e ∙ f)
 
 module _ (s argument a b : List ℕ) where
   one-reason : (R : Register) → Accepts s R → ReasonNamed R argument a → ReasonNamed R argument b → a ≡ b

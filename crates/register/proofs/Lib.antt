@@ -1,3 +1,4 @@
+pub mod Decimals
 pub mod Digits
 pub mod Lines
 pub mod Number

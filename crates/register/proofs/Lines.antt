@@ -1,8 +1,8 @@
 -- A text begins with one line at most: bytes that begin with a well-formed line say which line that is and what follows it.
--- Digits are told from what parts them, so a number ends at one place only.
+-- That a number ends at one place only is a law of numbers.
 use mathlib.Core.List.{List, append-assoc, [], _∷_, _++_}
 use mathlib.Core.Path.{refl, ap, _≡_}
-use Prim.Native.Nat.{ℕ, _≤_, _<_}
+use Prim.Native.Nat.{ℕ, _<_}
 use native.Mathlib.Omega.{arith}
 use lib.ListN.{length}
 use Rattle.register.specs.Number.{IsNumber, numberBytes}
@@ -13,31 +13,7 @@ use Rattle.register.specs.declared.StatementLine.{StatementLine}
 use Rattle.register.specs.declared.ObjectionLine.{ObjectionLine}
 use Rattle.register.specs.declared.Line.{Line}
 use Rattle.register.specs.declared.Line.the-variants.{Statement, Objection}
-use Rattle.register.proofs.Number.{Digits, decimal-digits, decimal-injective}
-
--- digits with a byte up to 10 behind them are parted from what follows at one place only
-pub split-once : (p q : List ℕ) (c d : ℕ) (r t : List ℕ) → Digits p → Digits q → c ≤ 10 → d ≤ 10 → p ++ (c ∷ r) ≡ q ++ (d ∷ t)
-    → (p ≡ q) × (c ≡ d) × (r ≡ t)
-split-once [] [] c d r t a b h k e = (refl, cc, cc)
-split-once [] (y ∷ q) c d r t a b h k e = let f : c ≡ y = cc in absurd (omega arith)
-split-once (x ∷ p) [] c d r t a b h k e = let f : x ≡ d = cc in absurd (omega arith)
-split-once (x ∷ p) (y ∷ q) c d r t (l, u, a) (l′, u′, b) h k e =
-    let same : x ≡ y = cc in
-    let (f, g, i) = split-once p q c d r t a b h k (cc) in
-    (cc, g, i)
-
-pub number-digits : (n : ℕ) → IsNumber n → Digits (numberBytes n)
-number-digits n h = decimal-digits n (omega arith)
-
-pub number-injective : (n m : ℕ) → IsNumber n → IsNumber m → numberBytes n ≡ numberBytes m → n ≡ m
-number-injective n m h k e = decimal-injective n m (omega arith) (omega arith) e
-
--- so a number that a byte up to 10 follows is read in one way
-number-once : (n m c d : ℕ) (r t : List ℕ) → IsNumber n → IsNumber m → c ≤ 10 → d ≤ 10
-    → numberBytes n ++ (c ∷ r) ≡ numberBytes m ++ (d ∷ t) → (n ≡ m) × (r ≡ t)
-number-once n m c d r t h k a b e =
-    let (f, g, i) = split-once (numberBytes n) (numberBytes m) c d r t (number-digits n h) (number-digits m k) a b e in
-    (number-injective n m h k f, i)
+use Rattle.register.proofs.Number.{number-once}
 
 mark-once : (m m′ : Mark) → markByte m ≡ markByte m′ → m ≡ m′
 mark-once Read Read e = refl

@@ -1,123 +1,88 @@
--- Laws of decimals and numbers. Lines and listings use these alone: a number's bytes are digits, the first not 0; they say
--- the number; and one digit more behind them is ten times the number and that digit.
-use mathlib.Core.Bool.{Bool, true, false}
+-- Laws of a register's numbers: the one file that looks into what a number is and how it is written. Lines, listings, examples
+-- and programs go by these laws; reading a number, its size and writing it are left to `register_number`.
+use mathlib.Core.Bool.{Bool, _&&_}
 use mathlib.Core.List.{List, [], _∷_, _++_}
-use mathlib.Core.Path.{ap, subst, refl, sym, _≡_, _∙_}
-use Prim.Native.Nat.{ℕ, suc, zero, _+_, _-_, _*_, _/_, _%_, _^_, _≤_, _<_}
-use native.Mathlib.Nat.{pow-suc}
+use mathlib.Core.Logic.{inl, inr, _⊎_}
+use mathlib.Core.Path.{refl, _≡_}
+use Prim.Native.Nat.{ℕ, _≤_, _<_}
 use native.Mathlib.Decide.{decLt}
 use native.Mathlib.Omega.{arith}
-use lib.Dec.{ltb}
-use lib.ListN.{length, length-append}
-use borrow.Author.Tests.{lt-ltb, le-ltb}
-use Rattle.register.specs.Texts.{decimalIn, pickBytes, decimal}
+use lib.Dec.{T, ltb, ltb→lt}
+use lib.ListN.{length}
+use Rattle.game.proofs.Search.{both}
+use Rattle.register.specs.Number.{IsNumber, numberBytes}
+use Rattle.register.proofs.Decimals.{Digits, decimal-digits, decimal-injective}
+use Rattle.register.proofs.Digits.{few-digits, ten-digits}
 
--- more room for digits than are needed changes nothing
-more : (f n : ℕ) → n < 10 ^ suc f → decimalIn (suc f) n ≡ decimalIn (suc (suc f)) n
-unfolding decimalIn
-more zero n h = let l : n < 10 = h in simp (lt-ltb n 10 l)
-more (suc f) n h =
-    let k : n / 10 < 10 ^ suc f = omega (arith, rw (pow-suc 10 (suc f)) at h) in
-    ap (λ (ds : List ℕ). pickBytes (ltb n 10) ((48 + n) ∷ []) (ds ++ ((48 + n % 10) ∷ []))) (more f (n / 10) k)
+-- Which numbers there are: 0 is none, and none is at `numbersEnd` or above.
+pub number-above : (n : ℕ) → IsNumber n → 0 < n
+unfolding IsNumber
+number-above n h = h .0
 
-pub decimal-one : (n : ℕ) → n < 10 → decimal n ≡ (48 + n) ∷ []
-unfolding decimal decimalIn
-decimal-one n h = simp (lt-ltb n 10 h)
+unfoldable pub numbersEnd : ℕ
+numbersEnd = 100000000
 
-first-step : (n : ℕ) → 10 ≤ n → decimalIn 10 n ≡ decimalIn 9 (n / 10) ++ ((48 + n % 10) ∷ [])
-unfolding decimalIn
-first-step n h = simp (le-ltb n 10 h)
+pub number-below : (n : ℕ) → IsNumber n → n < numbersEnd
+unfolding IsNumber numbersEnd
+number-below n h = h .1
 
-pub decimal-tenth : (n : ℕ) → 10 ≤ n → n < 10 ^ 10 → decimal n ≡ decimal (n / 10) ++ ((48 + n % 10) ∷ [])
-unfolding decimal
-decimal-tenth n h l = first-step n h ∙ ap (λ (ds : List ℕ). ds ++ ((48 + n % 10) ∷ [])) (more 8 (n / 10) (omega arith))
-
--- one digit more
-pub decimal-more : (n d : ℕ) → 0 < n → d < 10 → n * 10 + d < 10 ^ 10 → decimal (n * 10 + d) ≡ decimal n ++ ((48 + d) ∷ [])
-decimal-more n d h l k =
-    let q : (n * 10 + d) / 10 ≡ n = omega arith in
-    let r : (n * 10 + d) % 10 ≡ d = omega arith in
-    decimal-tenth (n * 10 + d) (omega arith) k ∙ ap (λ a. decimal a ++ ((48 + (n * 10 + d) % 10) ∷ [])) q
-    ∙ ap (λ b. decimal n ++ ((48 + b) ∷ [])) r
-
--- every byte is a digit's
-abbrev pub Digits : List ℕ → Type 0
-Digits [] = Unit {0}
-Digits (b ∷ bs) = (48 ≤ b) × (b ≤ 57) × Digits bs
-
-pub digits-append : (p q : List ℕ) → Digits p → Digits q → Digits (p ++ q)
-digits-append [] q a b = b
-digits-append (x ∷ p) q (l, h, a) b = (l, h, digits-append p q a b)
-
--- What holds of one digit, and of a tenth with one digit more, holds of every number below 10 ^ 10.
-module _ (P : ℕ → List ℕ → Type 0) (one : (n : ℕ) → n < 10 → P n ((48 + n) ∷ []))
-    (step : (n d : ℕ) (ds : List ℕ) → 0 < n → d < 10 → P n ds → P (n * 10 + d) (ds ++ ((48 + d) ∷ []))) where
-  by-digits : (f n : ℕ) → n < 10 ^ suc f → P n (decimalIn (suc f) n)
-  unfolding decimalIn
-  by-digits zero n h = let l : n < 10 = h in rw (lt-ltb n 10 l) (one n l)
-  by-digits (suc f) n h = go (decLt n 10) (λ k. by-digits f (n / 10) k)
-    where
-      go : Dec (n < 10) → (n / 10 < 10 ^ suc f → P (n / 10) (decimalIn (suc f) (n / 10)))
-          → P n (pickBytes (ltb n 10) ((48 + n) ∷ []) (decimalIn (suc f) (n / 10) ++ ((48 + n % 10) ∷ [])))
-      go (yes l) ih = rw (lt-ltb n 10 l) (one n l)
-      go (no l) ih =
-          let k : n / 10 < 10 ^ suc f = omega (arith, rw (pow-suc 10 (suc f)) at h) in
-          let e : n / 10 * 10 + n % 10 ≡ n = omega arith in
-          rw (le-ltb n 10 (omega arith)) (subst (λ m. P m (decimalIn (suc f) (n / 10) ++ ((48 + n % 10) ∷ []))) e
-          (step (n / 10) (n % 10) (decimalIn (suc f) (n / 10)) (omega arith) (omega arith) (ih k)))
-
-  pub of-decimal : (n : ℕ) → n < 10 ^ 10 → P n (decimal n)
-  unfolding decimal
-  of-decimal n h = by-digits 9 n h
-
-pub decimal-digits : (n : ℕ) → n < 10 ^ 10 → Digits (decimal n)
-decimal-digits =
-    of-decimal (λ n ds. Digits ds) (λ n h. (omega arith, omega arith, tt))
-    (λ n d ds h l p. digits-append ds ((48 + d) ∷ []) p (omega arith, omega arith, tt))
-
--- the first byte of a number above 0 is not that of 0
-abbrev pub Leads : ℕ → List ℕ → Type 0
-Leads n [] = ⊥
-Leads n (b ∷ bs) = 0 < n → 48 < b
-
-leads-more : (n m : ℕ) (ds es : List ℕ) → 0 < n → Leads n ds → Leads m (ds ++ es)
-leads-more n m [] es h p = absurd p
-leads-more n m (b ∷ bs) es h p = λ _. p h
-
-pub decimal-leads : (n : ℕ) → n < 10 ^ 10 → Leads n (decimal n)
-decimal-leads = of-decimal Leads (λ n h l. omega arith) (λ n d ds h l p. leads-more n (n * 10 + d) ds ((48 + d) ∷ []) h p)
-
--- the number that digits say, the first the highest
-spell : ℕ → List ℕ → ℕ
-spell a [] = a
-spell a (b ∷ bs) = spell (a * 10 + (b - 48)) bs
-
-spell-more : (a : ℕ) (ds : List ℕ) (b : ℕ) → spell a (ds ++ (b ∷ [])) ≡ spell a ds * 10 + (b - 48)
-unfolding spell
-spell-more a [] b = refl
-spell-more a (d ∷ ds) b = spell-more (a * 10 + (d - 48)) ds b
-
-says-one : (n : ℕ) → n < 10 → spell 0 ((48 + n) ∷ []) ≡ n
-unfolding spell
-says-one n h = omega arith
-
-decimal-says : (n : ℕ) → n < 10 ^ 10 → spell 0 (decimal n) ≡ n
-decimal-says = of-decimal (λ n ds. spell 0 ds ≡ n) says-one (λ n d ds h l p. spell-more 0 ds (48 + d) ∙ omega arith)
-
-pub decimal-injective : (n m : ℕ) → n < 10 ^ 10 → m < 10 ^ 10 → decimal n ≡ decimal m → n ≡ m
-decimal-injective n m h k e = sym (decimal-says n h) ∙ ap (spell 0) e ∙ decimal-says m k
-
--- a number below 10 ^ 8 has at most 8 digits
-short : (f n : ℕ) → length (decimalIn f n) ≤ f
-unfolding decimalIn
-short zero n = omega arith
-short (suc f) n = go (ltb n 10) (short f (n / 10))
+pub number? : (n : ℕ) → IsNumber n ⊎ (¬ IsNumber n)
+unfolding IsNumber
+number? n = go (decLt 0 n) (decLt n 100000000)
   where
-    go : (b : Bool) → length (decimalIn f (n / 10)) ≤ f → length
-        (pickBytes b ((48 + n) ∷ []) (decimalIn f (n / 10) ++ ((48 + n % 10) ∷ []))) ≤ suc f
-    go true i = omega arith
-    go false i = omega (arith, length-append (decimalIn f (n / 10)) ((48 + n % 10) ∷ []))
+    go : Dec (0 < n) → Dec (n < 100000000) → IsNumber n ⊎ (¬ IsNumber n)
+    go (yes p) (yes q) = inl (p, q)
+    go (yes p) (no q) = inr (λ h. q (h .1))
+    go (no p) q = inr (λ h. p (h .0))
 
-pub decimal-eight : (n : ℕ) → n < 100000000 → length (decimal n) ≤ 8
-unfolding decimal
-decimal-eight n h = rw (sym (more 7 n h ∙ more 8 n (omega arith))) (short 8 n)
+-- a test that computes
+unfoldable pub numberTest : ℕ → Bool
+numberTest n = ltb 0 n && ltb n 100000000
+
+pub number-tested : (n : ℕ) → T (numberTest n) → IsNumber n
+unfolding IsNumber numberTest
+number-tested n t = let (a, b) = both (ltb 0 n) (ltb n 100000000) t in (ltb→lt 0 n a, ltb→lt n 100000000 b)
+
+-- How long its bytes are, and those of any other number.
+pub number-short : (n : ℕ) → IsNumber n → length (numberBytes n) ≤ 8
+unfolding IsNumber numberBytes
+number-short n h = few-digits 7 n (omega arith) (h .1)
+
+pub number-small : (n : ℕ) → length (numberBytes n) ≤ 10
+unfolding numberBytes
+number-small n = ten-digits n
+
+-- every byte is above 10, so that none of them parts fields or ends a line
+abbrev pub Unbroken : List ℕ → Type 0
+Unbroken [] = Unit {0}
+Unbroken (b ∷ bs) = (10 < b) × Unbroken bs
+
+digits-unbroken : (ds : List ℕ) → Digits ds → Unbroken ds
+digits-unbroken [] d = tt
+digits-unbroken (b ∷ bs) (l, h, d) = (omega arith, digits-unbroken bs d)
+
+pub number-unbroken : (n : ℕ) → IsNumber n → Unbroken (numberBytes n)
+unfolding IsNumber numberBytes
+number-unbroken n h = digits-unbroken (numberBytes n) (decimal-digits n (omega (arith, h .1)))
+
+pub number-injective : (n m : ℕ) → IsNumber n → IsNumber m → numberBytes n ≡ numberBytes m → n ≡ m
+unfolding IsNumber numberBytes
+number-injective n m h k e = decimal-injective n m (omega (arith, h .1)) (omega (arith, k .1)) e
+
+-- bytes above 10 with a byte up to 10 behind them are parted from what follows at one place only
+split-once : (p q : List ℕ) (c d : ℕ) (r t : List ℕ) → Unbroken p → Unbroken q → c ≤ 10 → d ≤ 10 → p ++ (c ∷ r) ≡ q ++ (d ∷ t)
+    → (p ≡ q) × (r ≡ t)
+split-once [] [] c d r t a b h k e = (refl, cc)
+split-once [] (y ∷ q) c d r t a b h k e = let f : c ≡ y = cc in absurd (omega arith)
+split-once (x ∷ p) [] c d r t a b h k e = let f : x ≡ d = cc in absurd (omega arith)
+split-once (x ∷ p) (y ∷ q) c d r t (l, a) (l′, b) h k e =
+    let same : x ≡ y = cc in
+    let (f, g) = split-once p q c d r t a b h k (cc) in
+    (cc, g)
+
+-- so a number that a byte up to 10 follows is read in one way
+pub number-once : (n m c d : ℕ) (r t : List ℕ) → IsNumber n → IsNumber m → c ≤ 10 → d ≤ 10
+    → numberBytes n ++ (c ∷ r) ≡ numberBytes m ++ (d ∷ t) → (n ≡ m) × (r ≡ t)
+number-once n m c d r t h k a b e =
+    let (f, g) = split-once (numberBytes n) (numberBytes m) c d r t (number-unbroken n h) (number-unbroken m k) a b e in
+    (number-injective n m h k f, g)

@@ -7,7 +7,6 @@ use Prim.Native.Nat.{ℕ, zero, suc, _+_, _-_, _≤_, _<_}
 use native.Mathlib.Decide.{decLt, ℕ-discrete}
 use native.Mathlib.Omega.{arith}
 use lib.ListN.{length, getD, length-append}
-use Rattle.register.specs.Number.{IsNumber}
 use Rattle.register.specs.Lines.{BeginsWith, lineBytes}
 use Rattle.register.specs.declared.Mark.{Mark}
 use Rattle.register.specs.declared.Mark.the-variants.{Read, Unread}
@@ -20,6 +19,7 @@ use Rattle.register.specs.declared.TextFault.the-variants.{Late, Stateme
 use Rattle.register.specs.declared.TextFault.the-variants.{Spoiled, TooLong, Unended}
 use Rattle.register.specs.Register.{Register, Issued as OnRegister, numbers, Has, objectorNumbers, targetNumbers, Valid}
 use Rattle.register.specs.Register.{written, bare, bytes}
+use Rattle.register.proofs.Number.{number?, number-below, numbersEnd}
 use Rattle.register.proofs.OneMore.{no-objections, with-statement, valid-statement, written-statement, with-objection}
 use Rattle.register.proofs.OneMore.{valid-objection, written-objection, empty-valid}
 use Rattle.register.specs.Reads.{Accepts, Refuses, NotEnded, FaultAt}
@@ -76,9 +76,6 @@ begins? (a ∷ p) (b ∷ s) = go (same? b a) (begins? p s)
     go (inl e) (inr n) = inr (λ w. n (w .0, cc))
     go (inr e) q = inr (λ w. e cc)
 
-number? : (n : ℕ) → Settles (IsNumber n)
-number? n = both? (less? 0 n) (less? n 100000000)
-
 -- the line stands there, or it does not
 stands? : (l : Line) (s : List ℕ) → Settles (BeginsWith l s)
 unfolding Begins
@@ -93,36 +90,37 @@ module _ (s : List ℕ) where
   ObjectionThere : ℕ → ℕ → Type 0
   ObjectionThere y x = BeginsWith (Objection (record { objector = y; target = x })) s
 
-  statement? : (m : Mark) → Settles ((n : ℕ) × (n < 100000000) × StatementThere m n)
+  statement? : (m : Mark) → Settles ((n : ℕ) × (n < numbersEnd) × StatementThere m n)
   unfolding StatementThere
-  statement? m = below? 100000000 (StatementThere m) (λ n. stands? (Statement (record { number = n; mark = m })) s)
+  statement? m = below? numbersEnd (StatementThere m) (λ n. stands? (Statement (record { number = n; mark = m })) s)
 
-  objection? : Settles ((y : ℕ) × (y < 100000000) × ((x : ℕ) × (x < 100000000) × ObjectionThere y x))
+  objection? : Settles ((y : ℕ) × (y < numbersEnd) × ((x : ℕ) × (x < numbersEnd) × ObjectionThere y x))
   unfolding ObjectionThere
   objection? =
-      below? 100000000 (λ y. (x : ℕ) × (x < 100000000) × ObjectionThere y x)
-      (λ y. below? 100000000 (ObjectionThere y) (λ x. stands? (Objection (record { objector = y; target = x })) s))
+      below? numbersEnd (λ y. (x : ℕ) × (x < numbersEnd) × ObjectionThere y x)
+      (λ y. below? numbersEnd (ObjectionThere y) (λ x. stands? (Objection (record { objector = y; target = x })) s))
 
   pub line? : ((l : Line) × BeginsWith l s) ⊎ ((l : Line) → ¬ BeginsWith l s)
   unfolding StatementThere ObjectionThere
   line? = go (statement? Read) (statement? Unread) objection?
     where
-      go : Settles ((n : ℕ) × (n < 100000000) × StatementThere Read n)
-          → Settles ((n : ℕ) × (n < 100000000) × StatementThere Unread n)
-          → Settles ((y : ℕ) × (y < 100000000) × ((x : ℕ) × (x < 100000000) × ObjectionThere y x)) → ((l : Line) × BeginsWith l s)
-          ⊎ ((l : Line) → ¬ BeginsWith l s)
+      go : Settles ((n : ℕ) × (n < numbersEnd) × StatementThere Read n)
+          → Settles ((n : ℕ) × (n < numbersEnd) × StatementThere Unread n)
+          → Settles ((y : ℕ) × (y < numbersEnd) × ((x : ℕ) × (x < numbersEnd) × ObjectionThere y x))
+          → ((l : Line) × BeginsWith l s) ⊎ ((l : Line) → ¬ BeginsWith l s)
       go (inl (n, h, b)) q r = inl (Statement (record { number = n; mark = Read }), b)
       go (inr p) (inl (n, h, b)) r = inl (Statement (record { number = n; mark = Unread }), b)
       go (inr p) (inr q) (inl (y, h, (x, k, b))) = inl (Objection (record { objector = y; target = x }), b)
       go (inr p) (inr q) (inr r) = inr none
         where
           no-statement : (m : Mark) (n : ℕ) → ¬ BeginsWith (Statement (record { number = n; mark = m })) s
-          no-statement Read n b = p (n, b .0 .1, b)
-          no-statement Unread n b = q (n, b .0 .1, b)
+          no-statement Read n b = p (n, number-below n (b .0), b)
+          no-statement Unread n b = q (n, number-below n (b .0), b)
 
           none : (l : Line) → ¬ BeginsWith l s
           none (Statement st) b = no-statement (st .mark) (st .number) b
-          none (Objection o) b = r (o .objector, b .0 .0 .1, (o .target, b .0 .1 .1, b))
+          none (Objection o) b =
+              r (o .objector, number-below (o .objector) (b .0 .0), (o .target, number-below (o .target) (b .0 .1), b))
 
 pub issued? : (R : Register) (n : ℕ) → Settles (OnRegister R n)
 issued? R n = below? (length (numbers R)) (λ i. getD (numbers R) i 0 ≡ n) (λ i. same? (getD (numbers R) i 0) n)

@@ -1,6 +1,6 @@
 // The place of a number, found without a scan: the places of the numbers entered stand in a tree, and who looks a number up
-// goes down by its digits in base 8. A number of 8 decimal digits has at most 9 of them, and so many steps are the most;
-// no contract says so. Who asks only once scans the numbers instead (`find`). What the numbers stand for is left to the caller.
+// goes down by its digits in base 8. A number of 32 bits has at most 11 of them, and so many steps are the most; no contract
+// says so. Who asks only once scans the numbers instead (`find`). What the numbers stand for is left to the caller.
 use pair_chain::wide;
 ghost use mathlib.Core.Path.{_≡_};
 ghost use Prim.Native.Nat.{_≤_, _+_};

@@ -27,7 +27,7 @@ module _ (s : List ℕ) (at v e : ℕ) (read : NumberAt s at (Value v e)) where
   behind : (n c : ℕ) (rest : List ℕ) → IsNumber n → c ≤ 10 → drop at s ≡ numberBytes n ++ (c ∷ rest) → (n ≡ v)
       × (drop e s ≡ c ∷ rest)
   behind n c rest h k q =
-      let f : n ≡ v = read .4 n c rest h k q in
+      let f : n ≡ v = read .4 n (c ∷ rest) h k q in
       (f, cancel (numberBytes v) (drop e s) (c ∷ rest) (sym (read .3) ∙ q ∙ ap (λ m. numberBytes m ++ (c ∷ rest)) f))
 
 -- a statement's bytes behind its number
@@ -35,7 +35,7 @@ statement-bytes : (n : ℕ) (m : Mark) (rest : List ℕ) → statementTail n m +
 statement-bytes n m rest = append-assoc (numberBytes n) (9 ∷ markByte m ∷ 10 ∷ []) rest
 
 pub statement-unnumbered : (s : List ℕ) (at : ℕ) → NumberAt s at NoNumber → GotStatement s at Spoiled
-statement-unnumbered s at none n m rest h q = none n 9 (markByte m ∷ 10 ∷ rest) h (omega arith) (q ∙ statement-bytes n m rest)
+statement-unnumbered s at none n m rest h q = none n (9 ∷ markByte m ∷ 10 ∷ rest) h (omega arith) (q ∙ statement-bytes n m rest)
 
 module _ (s : List ℕ) (at v e : ℕ) (read : NumberAt s at (Value v e)) where
   fields : (n : ℕ) (m : Mark) (rest : List ℕ) → IsNumber n → drop at s ≡ statementTail n m ++ rest → (byteAt s e ≡ 9)
@@ -85,7 +85,7 @@ objection-bytes y x rest =
 
 pub objection-unnumbered : (s : List ℕ) (at : ℕ) → NumberAt s at NoNumber → GotObjection s at Spoiled
 objection-unnumbered s at none y x rest h k q =
-    none y 9 (numberBytes x ++ (10 ∷ rest)) h (omega arith) (q ∙ objection-bytes y x rest)
+    none y (9 ∷ (numberBytes x ++ (10 ∷ rest))) h (omega arith) (q ∙ objection-bytes y x rest)
 
 module _ (s : List ℕ) (at v tab : ℕ) (read : NumberAt s at (Value v tab)) where
   target : (y x : ℕ) (rest : List ℕ) → IsNumber y → drop at s ≡ objectionTail y x ++ rest → (byteAt s tab ≡ 9)
@@ -98,7 +98,7 @@ module _ (s : List ℕ) (at v tab : ℕ) (read : NumberAt s at (Value v tab)) wh
   objection-untabbed f y x rest h k q = f (target y x rest h q .0)
 
   pub objection-untargeted : NumberAt s (tab + 1) NoNumber → GotObjection s at Spoiled
-  objection-untargeted none y x rest h k q = none x 10 rest k (omega arith) (target y x rest h q .1)
+  objection-untargeted none y x rest h k q = none x (10 ∷ rest) k (omega arith) (target y x rest h q .1)
 
   module _ (w e : ℕ) (second : NumberAt s (tab + 1) (Value w e)) where
     pub objection-unended : (byteAt s e ≡ 10 → ⊥) → GotObjection s at Spoiled

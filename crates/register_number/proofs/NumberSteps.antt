@@ -1,5 +1,5 @@
 -- What the number reader and the line reader know of the bytes passed: digits before a place and no digit at it, and that
--- digits with a byte up to 10 behind them are one number only.
+-- digits which are parted from what follows are one number only.
 use mathlib.Core.List.{List, append-assoc, [], _∷_, _++_}
 use mathlib.Core.Path.{refl, ap, _≡_, sym, _∙_}
 use Prim.Native.Nat.{ℕ, zero, suc, _+_, _-_, _*_, _^_, _≤_, _<_}
@@ -12,10 +12,10 @@ use lib.Seq.{drop-cons}
 use borrow.Author.Tests.{le-leb, lt-leb}
 use Rattle.register.specs.Texts.{decimal}
 use Rattle.register.specs.Number.{IsNumber, numberBytes}
-use Rattle.register_number.specs.NumberReading.{byteAt, digitOf, NumberAt}
+use Rattle.register_number.specs.NumberReading.{byteAt, digitOf, Parted, NumberAt}
 use Rattle.register_number.specs.declared.NumberRead.the-variants.{Value, NoNumber}
-use Rattle.register.proofs.Number.{Digits, decimal-leads, decimal-digits, Leads, decimal-one, decimal-more, decimal-injective}
-use Rattle.register.proofs.Number.{digits-append, decimal-eight}
+use Rattle.register.proofs.Decimals.{Digits, digits-append, decimal-digits, Leads, decimal-leads, decimal-one, decimal-more}
+use Rattle.register.proofs.Number.{number-injective, number-short}
 
 -- inside a list the default does not matter
 pub inside : (s : List ℕ) (i a b : ℕ) → i < length s → getD s i a ≡ getD s i b
@@ -77,33 +77,43 @@ module _ (s : List ℕ) (i d : ℕ) (here : d ≡ digitOf (byteAt s i)) where
       let q : digitOf b < 10 = no-value b l m in
       omega (arith, here, ap digitOf (first-byte s i b r e))
 
--- digits that no digit follows are the digits that a byte up to 10 follows
-digits-same : (p q u : List ℕ) (c : ℕ) (r : List ℕ) → Digits p → Digits q → NoDigit u → c ≤ 10 → p ++ u ≡ q ++ (c ∷ r) → p ≡ q
-digits-same [] [] u c r a b n h e = refl
-digits-same [] (y ∷ q) u c r a b n h e = absurd (n y (q ++ (c ∷ r)) e (b .0) (b .1))
-digits-same (x ∷ p) [] u c r a b n h e = let z : x ≡ c = cc in absurd (omega (arith, a .0))
-digits-same (x ∷ p) (y ∷ q) u c r a b n h e =
+-- what stands behind a number begins with no byte above 10
+parted-first : (x : ℕ) (u r : List ℕ) → x ∷ u ≡ r → Parted r → x ≤ 10
+parted-first x u [] e h = let z : _≡_ {A = ℕ} 0 1 = cc in absurd (omega arith)
+parted-first x u (c ∷ r) e h = let z : x ≡ c = cc in omega arith
+
+-- digits that no digit follows are the digits that are parted from what follows
+digits-same : (p q u r : List ℕ) → Digits p → Digits q → NoDigit u → Parted r → p ++ u ≡ q ++ r → p ≡ q
+digits-same [] [] u r a b n h e = refl
+digits-same [] (y ∷ q) u r a b n h e = absurd (n y (q ++ r) e (b .0) (b .1))
+digits-same (x ∷ p) [] u r a b n h e = absurd (omega (arith, a .0, parted-first x (p ++ u) r e h))
+digits-same (x ∷ p) (y ∷ q) u r a b n h e =
     let z : x ≡ y = cc in
-    let t : p ++ u ≡ q ++ (c ∷ r) = cc in
-    let f : p ≡ q = digits-same p q u c r (a .2) (b .2) n h t in
+    let t : p ++ u ≡ q ++ r = cc in
+    let f : p ≡ q = digits-same p q u r (a .2) (b .2) n h t in
     cc
 
-digits-fewer : (p q u : List ℕ) (c : ℕ) (r : List ℕ) → Digits p → c ≤ 10 → p ++ u ≡ q ++ (c ∷ r) → length p ≤ length q
-digits-fewer [] q u c r a h e = omega arith
-digits-fewer (x ∷ p) [] u c r a h e = let z : x ≡ c = cc in absurd (omega (arith, a .0))
-digits-fewer (x ∷ p) (y ∷ q) u c r a h e =
-    let t : p ++ u ≡ q ++ (c ∷ r) = cc in
-    let f : length p ≤ length q = digits-fewer p q u c r (a .2) h t in
+digits-fewer : (p q u r : List ℕ) → Digits p → Parted r → p ++ u ≡ q ++ r → length p ≤ length q
+digits-fewer [] q u r a h e = omega arith
+digits-fewer (x ∷ p) [] u r a h e = absurd (omega (arith, a .0, parted-first x (p ++ u) r e h))
+digits-fewer (x ∷ p) (y ∷ q) u r a h e =
+    let t : p ++ u ≡ q ++ r = cc in
+    let f : length p ≤ length q = digits-fewer p q u r (a .2) h t in
     omega arith
 
--- a number's first byte
-lead : (n c : ℕ) (r u : List ℕ) → IsNumber n → u ≡ numberBytes n ++ (c ∷ r) → (b : ℕ) × (t : List ℕ) × (u ≡ b ∷ t) × (48 < b)
+-- a number's bytes are digits, and the first of them is not that of 0
+number-digits : (n : ℕ) → IsNumber n → Digits (numberBytes n)
+unfolding IsNumber numberBytes
+number-digits n h = decimal-digits n (omega (arith, h .1))
+
+lead : (n : ℕ) (r u : List ℕ) → IsNumber n → u ≡ numberBytes n ++ r → (b : ℕ) × (t : List ℕ) × (u ≡ b ∷ t) × (48 < b)
     × (b ≤ 57)
-lead n c r u h e = go (decimal n) refl (decimal-leads n (omega arith)) (decimal-digits n (omega arith))
+unfolding IsNumber numberBytes
+lead n r u h e = go (decimal n) refl (decimal-leads n (omega (arith, h .1))) (number-digits n h)
   where
     go : (ds : List ℕ) → decimal n ≡ ds → Leads n ds → Digits ds → (b : ℕ) × (t : List ℕ) × (u ≡ b ∷ t) × (48 < b) × (b ≤ 57)
     go [] q l d = absurd l
-    go (b ∷ bs) q l d = (b, bs ++ (c ∷ r), e ∙ ap (λ ds. ds ++ (c ∷ r)) q, l (h .0), d .1)
+    go (b ∷ bs) q l d = (b, bs ++ r, e ∙ ap (λ ds. ds ++ r) q, l (h .0), d .1)
 
 -- The loop: the digits from `at` to i are those of the value.
 pub record Inv (s : List ℕ) (at value i : ℕ) : Type 0 where
@@ -137,6 +147,7 @@ module _ (s : List ℕ) (at value i : ℕ) (v : Inv s at value i) where
   below-eight h = omega (arith, v .small, pow-le-pow-right {n = 10} (omega arith) (let k : i - at ≤ 7 = omega arith in k))
 
   number : IsNumber value
+  unfolding IsNumber
   number = (v .above, below-power)
 
   pub turn : (d : ℕ) → d ≡ digitOf (byteAt s i) → d ≤ 9 → i - at < 8 → Inv s at (value * 10 + d) (i + 1)
@@ -159,30 +170,30 @@ module _ (s : List ℕ) (at value i : ℕ) (v : Inv s at value i) where
       }
 
   pub whole : (d : ℕ) → d ≡ digitOf (byteAt s i) → 9 < d → NumberAt s at (Value value i)
+  unfolding numberBytes
   whole d here l = (number, v .from, v .within, v .spells, only)
     where
-      only : (n c : ℕ) (rest : List ℕ) → IsNumber n → c ≤ 10 → drop at s ≡ numberBytes n ++ (c ∷ rest) → n ≡ value
-      only n c rest h k e =
-          let p : decimal value ≡ decimal n = digits-same (decimal value) (decimal n) (drop i s) c rest
-          (decimal-digits value (omega (arith, below-power))) (decimal-digits n (omega arith)) (no-digit s i d here l) k
-          (sym (v .spells) ∙ e) in
-          sym (decimal-injective value n (omega (arith, below-power)) (omega arith) p)
+      only : (n : ℕ) (rest : List ℕ) → IsNumber n → Parted rest → drop at s ≡ numberBytes n ++ rest → n ≡ value
+      only n rest h k e =
+          let p : numberBytes value ≡ numberBytes n = digits-same (numberBytes value) (numberBytes n) (drop i s) rest
+          (number-digits value number) (number-digits n h) (no-digit s i d here l) k (sym (v .spells) ∙ e) in
+          sym (number-injective value n number h p)
 
   pub nine-digits : (d : ℕ) → d ≡ digitOf (byteAt s i) → d < 10 → 8 ≤ i - at → NumberAt s at NoNumber
-  nine-digits d here l h n c rest j k e =
+  nine-digits d here l h n rest j k e =
       let p : List ℕ = decimal value ++ ((48 + d) ∷ []) in
-      let f : length p ≤ length (decimal n) = digits-fewer p (decimal n) (drop (i + 1) s) c rest
+      let f : length p ≤ length (numberBytes n) = digits-fewer p (numberBytes n) (drop (i + 1) s) rest
       (digits-append (decimal value) ((48 + d) ∷ []) (decimal-digits value (omega (arith, below-power)))
       (omega arith, omega arith, tt)) k (append-assoc (decimal value) ((48 + d) ∷ []) (drop (i + 1) s)
       ∙ sym (ap (λ u. decimal value ++ u) (digit-first s i d here l)) ∙ sym (v .spells) ∙ e) in
-      omega (arith, f, decimal-eight n (j .1), v .count, length-append (decimal value) ((48 + d) ∷ []))
+      omega (arith, f, number-short n j, v .count, length-append (decimal value) ((48 + d) ∷ []))
 
 pub zero-first : (s : List ℕ) (at d : ℕ) → d ≡ digitOf (byteAt s at) → d ≡ 0 → NumberAt s at NoNumber
-zero-first s at d here z n c rest j k e =
-    let (b, t, q, l, m) = lead n c rest (drop at s) j e in
+zero-first s at d here z n rest j k e =
+    let (b, t, q, l, m) = lead n rest (drop at s) j e in
     omega (arith, digit-byte s at d here (omega arith), first-byte s at b t q)
 
 pub none-first : (s : List ℕ) (at d : ℕ) → d ≡ digitOf (byteAt s at) → 9 < d → NumberAt s at NoNumber
-none-first s at d here h n c rest j k e =
-    let (b, t, q, l, m) = lead n c rest (drop at s) j e in
+none-first s at d here h n rest j k e =
+    let (b, t, q, l, m) = lead n rest (drop at s) j e in
     no-digit s at d here h b t q (omega arith) m

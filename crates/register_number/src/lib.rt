@@ -1,9 +1,13 @@
-// A number of a register text, read at a place of the lent text, and the bytes and digits there. What a number is, `register`
-// says; the line around it is left to `register_line`.
+// A number of a register: read at a place of the lent text or as a whole field, its size, and written into a lent room. What a
+// number is, `register` says; the line around it is left to others, and so are counts and lengths, which are plain decimals.
+use room_write::decimal_size;
+use room_write::put_decimal;
 ghost use mathlib.Core.Path.{_≡_};
 ghost use Prim.Native.Nat.{_≤_};
 ghost use lib.ListN.{length};
-ghost use Rattle.register_number.specs.NumberReading.{byteAt, digitOf, NumberAt};
+ghost use Rattle.register.specs.Number.{numberBytes};
+ghost use Rattle.room_write.specs.Writing.{RoomFor, Put};
+ghost use Rattle.register_number.specs.NumberReading.{byteAt, digitOf, NumberAt, NumberOf};
 
 // A number, and the place after it.
 pub enum NumberRead {
@@ -57,4 +61,32 @@ pub fn number_at(s: &[u8], at: usize) -> NumberRead
         return NumberRead::NoNumber;
     }
     NumberRead::Value(value, i)
+}
+
+// The number that a whole field is, or 0, which is no number.
+pub fn number_of(field: &[u8]) -> u32
+    ensures { λ r. ⌜ NumberOf (now (field .entry)) r ⌝ }
+{
+    let NumberRead::Value(number, end) = number_at(field, 0) else {
+        return 0;
+    };
+    if end != field.len() {
+        return 0;
+    }
+    number
+}
+
+// How many bytes a number has.
+pub fn number_size(number: u32) -> usize
+    ensures { λ r. ⌜ r ≡ length (numberBytes number) ⌝ }
+{
+    decimal_size(number)
+}
+
+// Puts a number into the room at a place, and answers the place behind it.
+pub fn put_number(room: &mut [u8], at: usize, number: u32) -> usize
+    requires { ⌜ RoomFor (now room) at (numberBytes number) ⌝ }
+    ensures { λ r. ⌜ Put (now (room .entry)) at (numberBytes number) r (now (room .exit)) ⌝ }
+{
+    put_decimal(room, at, number)
 }

@@ -1,8 +1,8 @@
 // The register that lists hold, written back as its text into a lent room: a line for each statement, then a line for each
-// objection. Which lists a register makes is left to `register`; words and numbers are put by `room_write`.
+// objection. Which lists a register makes is left to `register`; numbers are put by `register_number`, and words by `room_write`.
 use pair_chain::place;
-use room_write::decimal_size;
-use room_write::put_decimal;
+use register_number::number_size;
+use register_number::put_number;
 use room_write::put_word;
 ghost use mathlib.Core.List.{List, _++_};
 ghost use mathlib.Core.Path.{_≡_};
@@ -21,7 +21,7 @@ fn statements_size(numbers: &[u32]) -> usize
     let mut i = 0;
     // The total is the size of the lines of the first i statements.
     while i < numbers.len() {
-        total += decimal_size(numbers[i]) + 5;
+        total += number_size(numbers[i]) + 5;
         i += 1;
     }
     total
@@ -38,7 +38,7 @@ fn objections_size(numbers: &[u32], objectors: &[u32], targets: &[u32]) -> usize
     while k < objectors.len() {
         let y = place(objectors[k]);
         let x = place(targets[k]);
-        total += decimal_size(numbers[y]) + decimal_size(numbers[x]) + 4;
+        total += number_size(numbers[y]) + number_size(numbers[x]) + 4;
         k += 1;
     }
     total
@@ -71,7 +71,7 @@ fn put_statement(room: &mut [u8], at: usize, number: u32, mark: u8) -> usize
     ensures { λ r. ⌜ Put (now (room .entry)) at (statementBytes number mark) r (now (room .exit)) ⌝ }
 {
     let number_at = put_word(room, at, b"S\t");
-    let mark_at = put_decimal(room, number_at, number);
+    let mark_at = put_number(room, number_at, number);
     put_mark(room, mark_at, mark)
 }
 
@@ -81,9 +81,9 @@ fn put_objection(room: &mut [u8], at: usize, objector: u32, target: u32) -> usiz
     ensures { λ r. ⌜ Put (now (room .entry)) at (objectionBytes objector target) r (now (room .exit)) ⌝ }
 {
     let objector_at = put_word(room, at, b"O\t");
-    let tab = put_decimal(room, objector_at, objector);
+    let tab = put_number(room, objector_at, objector);
     let target_at = put_word(room, tab, b"\t");
-    let line_end = put_decimal(room, target_at, target);
+    let line_end = put_number(room, target_at, target);
     put_word(room, line_end, b"\n")
 }
 

@@ -5,7 +5,7 @@ use Prim.Native.Nat.{ℕ, _+_, _/_, _%_, _^_, _≤_, _<_}
 use native.Mathlib.Omega.{arith}
 use lib.ListN.{length, length-append}
 use Rattle.register.specs.Texts.{decimal}
-use Rattle.register.proofs.Number.{decimal-tenth, decimal-one}
+use Rattle.register.proofs.Decimals.{decimal-tenth, decimal-one}
 use Rattle.room_write.specs.Writing.{twoDigits}
 
 -- two digits at once

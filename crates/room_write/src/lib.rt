@@ -1,5 +1,5 @@
-// Words and numbers written into a lent room, one behind the other, and how long they are. What is written, and that there is
-// room for it, is for others to say.
+// Words and decimals written into a lent room, one behind the other, and how long they are. What is written, and that there is
+// room for it, is for others to say; a register's number is left to `register_number`.
 ghost use mathlib.Core.Path.{_≡_};
 ghost use Prim.Native.Nat.{_<_};
 ghost use lib.ListN.{length};

@@ -1,29 +1,29 @@
 -- `objection_size` is the size of a row: three fields and three bytes more.
 use native.Mathlib.Omega.{arith}
-use Rattle.register.proofs.Digits.{ten-digits}
+use Rattle.register.proofs.Number.{number-small}
 use Rattle.listing.proofs.Rows.{objection-length, kind-small}
 use borrow.Author.Needs.{needs}
 use Rattle.listing_row.proofs.objection_size.Statement.{statement}
 use Rattle.listing_row.proofs.objection_size.Tie as tie
 
-decimal-size-requires : tie.Need-decimal-size-requires
-decimal-size-requires c κs = search needs
+number-size-requires : tie.Need-number-size-requires
+number-size-requires c κs = search needs
 
 add-result : tie.Need-add-result
-add-result c = omega (arith, ten-digits (c .before .args .objector))
+add-result c = omega (arith, number-small (c .before .args .objector))
 
-decimal-size-requires-2 : tie.Need-decimal-size-requires-2
-decimal-size-requires-2 c κs = search needs
+number-size-requires-2 : tie.Need-number-size-requires-2
+number-size-requires-2 c κs = search needs
 
 add-result-2 : tie.Need-add-result-2
 add-result-2 c =
     let args = c .before .before .args in
-    omega (arith, ten-digits (args .objector), ten-digits (args .target))
+    omega (arith, number-small (args .objector), number-small (args .target))
 
 add-result-3 : tie.Need-add-result-3
 add-result-3 c =
     let args = c .before .before .args in
-    omega (arith, ten-digits (args .objector), ten-digits (args .target))
+    omega (arith, number-small (args .objector), number-small (args .target))
 
 kind-size-requires : tie.Need-kind-size-requires
 kind-size-requires c κs = search needs
@@ -31,12 +31,12 @@ kind-size-requires c κs = search needs
 add-result-4 : tie.Need-add-result-4
 add-result-4 c =
     let args = c .before .before .before .args in
-    omega (arith, ten-digits (args .objector), ten-digits (args .target), kind-small (args .kind))
+    omega (arith, number-small (args .objector), number-small (args .target), kind-small (args .kind))
 
 add-result-5 : tie.Need-add-result-5
 add-result-5 c =
     let args = c .before .before .before .args in
-    omega (arith, ten-digits (args .objector), ten-digits (args .target), kind-small (args .kind))
+    omega (arith, number-small (args .objector), number-small (args .target), kind-small (args .kind))
 
 returns : tie.Need-returns
 returns c =
@@ -47,9 +47,9 @@ pub objection-size-spec : {M : Type 1} → statement M
 objection-size-spec =
     tie.close
     (tie.spec
-    decimal-size-requires
+    number-size-requires
     add-result
-    decimal-size-requires-2
+    number-size-requires-2
     add-result-2
     add-result-3
     kind-size-requires

@@ -6,8 +6,8 @@ use borrow.Author.Needs.{needs}
 use Rattle.listing_row.proofs.put_objection.Statement.{statement}
 use Rattle.listing_row.proofs.put_objection.Tie as tie
 
-put-decimal-requires : tie.Need-put-decimal-requires
-put-decimal-requires c κs =
+put-number-requires : tie.Need-put-number-requires
+put-number-requires c κs =
     let args = c .before .before .args in
     omega (arith, objection-length (args .objector) (args .target) (args .kind))
 
@@ -19,8 +19,8 @@ put-word-requires c κs =
     let args = c .before .before .before .before .before .before .before .args in
     omega (arith, objection-length (args .objector) (args .target) (args .kind))
 
-put-decimal-requires-2 : tie.Need-put-decimal-requires-2
-put-decimal-requires-2 c κs =
+put-number-requires-2 : tie.Need-put-number-requires-2
+put-number-requires-2 c κs =
     let args = c .before .before .before .before .before .before .before .before .before .before .before .args in
     omega (arith, objection-length (args .objector) (args .target) (args .kind))
 
@@ -29,12 +29,14 @@ slice-aggregate-put-word-2 c = search needs
 
 put-word-requires-2 : tie.Need-put-word-requires-2
 put-word-requires-2 c κs =
-    let args = c .before .before .before .before .before .before .before .before .before .before .before .before .before .before .before .before .args in
+    let targeted = c .before .before .before .before in
+    let args = targeted .before .before .before .before .before .before .before .before .before .before .before .before .args in
     omega (arith, objection-length (args .objector) (args .target) (args .kind))
 
 put-kind-requires : tie.Need-put-kind-requires
 put-kind-requires c κs =
-    let args = c .before .before .before .before .before .before .before .before .before .before .before .before .before .before .before .before .before .before .before .before .args in
+    let targeted = c .before .before .before .before .before .before .before .before in
+    let args = targeted .before .before .before .before .before .before .before .before .before .before .before .before .args in
     omega (arith, objection-length (args .objector) (args .target) (args .kind))
 
 slice-aggregate-put-word-3 : tie.Need-slice-aggregate-put-word-3
@@ -42,7 +44,8 @@ slice-aggregate-put-word-3 c = search needs
 
 put-word-requires-3 : tie.Need-put-word-requires-3
 put-word-requires-3 c κs =
-    let args = c .before .before .before .before .before .before .before .before .before .before .before .before .before .before .before .before .before .before .before .before .before .before .before .before .before .args in
+    let targeted = c .before .before .before .before .before .before .before .before .before .before .before .before .before in
+    let args = targeted .before .before .before .before .before .before .before .before .before .before .before .before .args in
     omega (arith, objection-length (args .objector) (args .target) (args .kind))
 
 same-length : tie.Need-same-length
@@ -50,25 +53,26 @@ same-length c = search needs
 
 returns : tie.Need-returns
 returns c =
-    let args = c .before .before .before .before .before .before .before .before .before .before .before .before .before .before .before .before .before .before .before .before .before .before .before .before .before .before .before .before .args in
-    let pre = c .before .before .before .before .before .before .before .before .before .before .before .before .before .before .before .before .before .before .before .before .before .before .before .before .before .before .before .before .pre in
-    let put-decimal = c .before .before .before .before .before .before .before .before .before .before .before .before .before .before .before .before .before .before .before .before .before .before .before .before .before .put-decimal in
-    let put-word = c .before .before .before .before .before .before .before .before .before .before .before .before .before .before .before .before .before .before .before .before .put-word in
-    let put-decimal2 = c .before .before .before .before .before .before .before .before .before .before .before .before .before .before .before .before .put-decimal2 in
-    let put-word2 = c .before .before .before .before .before .before .before .before .before .before .before .put-word2 in
+    let tabbed = c .before .before .before .before .before .before .before .before .before .before .before in
+    let targeted = tabbed .before .before .before .before .before in
+    let objected = targeted .before .before .before .before .before .before .before .before .before in
+    let start = objected .before .before .before in
+    let args = start .args in
+    let put-word = targeted .before .before .before .before .put-word in
     let put-kind = c .before .before .before .before .before .before .before .put-kind in
-    objection-put (args .room .now) (args .at) (args .objector) (args .target) (args .kind) pre (put-decimal .ensures)
-    (put-word .ensures) (put-decimal2 .ensures) (put-word2 .ensures) (put-kind .ensures)
+    objection-put (args .room .now) (args .at) (args .objector) (args .target) (args .kind) (start .pre)
+    (objected .put-number .ensures) (put-word .ensures) (targeted .put-number2 .ensures) (tabbed .put-word2 .ensures)
+    (put-kind .ensures)
     (c .before .before .put-word3 .ensures)
 
 pub put-objection-spec : {M : Type 1} → statement M
 put-objection-spec =
     tie.close
     (tie.spec
-    put-decimal-requires
+    put-number-requires
     slice-aggregate-put-word
     put-word-requires
-    put-decimal-requires-2
+    put-number-requires-2
     slice-aggregate-put-word-2
     put-word-requires-2
     put-kind-requires

@@ -7,8 +7,8 @@ use borrow.Author.Needs.{needs}
 use Rattle.listing_row.proofs.put_statement.Statement.{statement}
 use Rattle.listing_row.proofs.put_statement.Tie as tie
 
-put-decimal-requires : tie.Need-put-decimal-requires
-put-decimal-requires c κs =
+put-number-requires : tie.Need-put-number-requires
+put-number-requires c κs =
     let args = c .before .before .args in
     omega (arith, statement-length (args .number) (said (args .label) (args .turns)))
 
@@ -30,7 +30,8 @@ slice-aggregate-put-word-2 c = search needs
 
 put-word-requires-2 : tie.Need-put-word-requires-2
 put-word-requires-2 c κs =
-    let args = c .before .before .before .before .before .before .before .before .before .before .before .before .before .before .before .before .args in
+    let numbered = c .before .before .before .before .before .before .before .before .before .before .before .before .before in
+    let args = numbered .before .before .before .args in
     omega (arith, statement-length (args .number) (said (args .label) (args .turns)))
 
 same-length : tie.Need-same-length
@@ -38,19 +39,19 @@ same-length c = search needs
 
 returns : tie.Need-returns
 returns c =
-    let args = c .before .before .before .before .before .before .before .before .before .before .before .before .before .before .before .before .before .before .before .args in
-    let pre = c .before .before .before .before .before .before .before .before .before .before .before .before .before .before .before .before .before .before .before .pre in
-    let put-decimal = c .before .before .before .before .before .before .before .before .before .before .before .before .before .before .before .before .put-decimal in
-    let put-word = c .before .before .before .before .before .before .before .before .before .before .before .put-word in
+    let tabbed = c .before .before .before .before .before .before .before .before .before .before .before in
+    let numbered = tabbed .before .before .before .before .before in
+    let start = numbered .before .before .before in
+    let args = start .args in
     let put-verdict = c .before .before .before .before .before .before .before .put-verdict in
-    statement-put (args .room .now) (args .at) (args .number) (said (args .label) (args .turns)) pre (put-decimal .ensures)
-    (put-word .ensures) (put-verdict .ensures) (c .before .before .put-word2 .ensures)
+    statement-put (args .room .now) (args .at) (args .number) (said (args .label) (args .turns)) (start .pre)
+    (numbered .put-number .ensures) (tabbed .put-word .ensures) (put-verdict .ensures) (c .before .before .put-word2 .ensures)
 
 pub put-statement-spec : {M : Type 1} → statement M
 put-statement-spec =
     tie.close
     (tie.spec
-    put-decimal-requires
+    put-number-requires
     slice-aggregate-put-word
     put-word-requires
     put-verdict-requires

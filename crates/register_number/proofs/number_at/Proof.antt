@@ -50,12 +50,12 @@ returns-3 c =
 mul-value : tie.Need-mul-value Inv-loop μ-loop
 mul-value c =
     let args = c .before .before .before .before .before .before .before .before .args in
-    omega (arith, below-eight (args .s .now) _ _ _ (c .before .before .before .loop .inv) (c .before .before .loop-test .taken))
+    omega (arith, below-eight (args .s .now) _ _ _ (c .before .before .before .loop .inv) (omega arith))
 
 add-value : tie.Need-add-value Inv-loop μ-loop
 add-value c =
     let args = c .before .before .before .before .before .before .before .before .args in
-    omega (arith, below-eight (args .s .now) _ _ _ (c .before .before .before .loop .inv) (c .before .before .loop-test .taken))
+    omega (arith, below-eight (args .s .now) _ _ _ (c .before .before .before .loop .inv) (omega arith))
 
 add-i-2 : tie.Need-add-i-2 Inv-loop μ-loop
 add-i-2 c = omega (arith, c .before .before .before .loop .inv .within)
@@ -67,8 +67,7 @@ loop-less c =
 
 loop-again : tie.Need-loop-again Inv-loop μ-loop
 loop-again c =
-    turn _ _ _ _ (c .before .before .before .loop .inv) _ (c .before .digit-at2 .ensures) (c .if3 .left)
-    (c .before .before .loop-test .taken)
+    turn _ _ _ _ (c .before .before .before .loop .inv) _ (c .before .digit-at2 .ensures) (c .if3 .left) (omega arith)
 
 digit-at-requires-3 : tie.Need-digit-at-requires-3 Inv-loop μ-loop
 digit-at-requires-3 c κs = search needs
@@ -77,7 +76,7 @@ returns-4 : tie.Need-returns-4 Inv-loop μ-loop
 returns-4 c =
     let args = c .before .before .before .before .before .before .before .before .args in
     nine-digits (args .s .now) _ _ _ (c .before .before .before .loop .inv) _ (c .before .digit-at3 .ensures) (c .if4 .taken)
-    (c .before .before .loop-test .left)
+    (omega arith)
 
 returns-5 : tie.Need-returns-5 Inv-loop μ-loop
 returns-5 c =

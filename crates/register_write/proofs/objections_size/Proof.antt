@@ -5,7 +5,7 @@ use native.Mathlib.Omega.{arith}
 use lib.ListN.{length, getD}
 use Rattle.register.specs.Texts.{rowsTo}
 use Rattle.register_write.specs.Copied.{objectionText}
-use Rattle.register.proofs.Digits.{ten-digits}
+use Rattle.register.proofs.Number.{number-small}
 use Rattle.register.proofs.TextRows.{no-rows, rows-longer}
 use Rattle.register_write.proofs.PutLines.{objection-length}
 use Rattle.register_write.proofs.Copied.{objections-small, own-text}
@@ -43,74 +43,77 @@ shared-slice-read-place-2 c = search needs
 place-requires-2 : tie.Need-place-requires-2 Inv-loop μ-loop
 place-requires-2 c κs = search needs
 
-mul-decimal-size : tie.Need-mul-decimal-size Inv-loop μ-loop
-mul-decimal-size c =
+mul-number-size : tie.Need-mul-number-size Inv-loop μ-loop
+mul-number-size c =
     let start = c .before .before .before .before .before .before .before .before .before in
     let k = c .before .before .before .before .before .loop .k in
     let there = start .pre .objector k (c .before .before .before .before .loop-test .taken) in
     omega (arith, start .pre .few-numbers, there, c .before .before .place .ensures)
 
-shared-slice-read-decimal-size : tie.Need-shared-slice-read-decimal-size Inv-loop μ-loop
-shared-slice-read-decimal-size c =
+shared-slice-read-number-size : tie.Need-shared-slice-read-number-size Inv-loop μ-loop
+shared-slice-read-number-size c =
     let start = c .before .before .before .before .before .before .before .before .before .before in
     let k = c .before .before .before .before .before .before .loop .k in
     let there = start .pre .objector k (c .before .before .before .before .before .loop-test .taken) in
     omega (arith, start .pre .few-numbers, there, c .before .before .before .place .ensures)
 
-decimal-size-requires : tie.Need-decimal-size-requires Inv-loop μ-loop
-decimal-size-requires c κs = search needs
+number-size-requires : tie.Need-number-size-requires Inv-loop μ-loop
+number-size-requires c κs = search needs
 
-mul-decimal-size-2 : tie.Need-mul-decimal-size-2 Inv-loop μ-loop
-mul-decimal-size-2 c =
+mul-number-size-2 : tie.Need-mul-number-size-2 Inv-loop μ-loop
+mul-number-size-2 c =
     let start = c .before .before .before .before .before .before .before .before .before .before .before in
     let k = c .before .before .before .before .before .before .before .loop .k in
     let there = start .pre .target k (c .before .before .before .before .before .before .loop-test .taken) in
     omega (arith, start .pre .few-numbers, there, c .before .before .place2 .ensures)
 
-shared-slice-read-decimal-size-2 : tie.Need-shared-slice-read-decimal-size-2 Inv-loop μ-loop
-shared-slice-read-decimal-size-2 c =
+shared-slice-read-number-size-2 : tie.Need-shared-slice-read-number-size-2 Inv-loop μ-loop
+shared-slice-read-number-size-2 c =
     let start = c .before .before .before .before .before .before .before .before .before .before .before .before in
     let k = c .before .before .before .before .before .before .before .before .loop .k in
     let there = start .pre .target k (c .before .before .before .before .before .before .before .loop-test .taken) in
     omega (arith, start .pre .few-numbers, there, c .before .before .before .place2 .ensures)
 
-decimal-size-requires-2 : tie.Need-decimal-size-requires-2 Inv-loop μ-loop
-decimal-size-requires-2 c κs = search needs
+number-size-requires-2 : tie.Need-number-size-requires-2 Inv-loop μ-loop
+number-size-requires-2 c κs = search needs
 
 add-total : tie.Need-add-total Inv-loop μ-loop
 add-total c =
-    let numbers = c .before .before .before .before .before .before .before .before .before .before .before .before .before .args .numbers .now in
+    let start = c .before .before .before .before .before .before .before .before .before .before .before .before .before in
+    let numbers = start .args .numbers .now in
     omega (
       arith,
-      ten-digits (getD numbers (c .before .before .before .before .before .before .place .result) 0),
-      ten-digits (getD numbers (c .before .before .before .before .place2 .result) 0),
-      c .before .before .decimal-size .ensures,
-      c .decimal-size2 .ensures,
+      number-small (getD numbers (c .before .before .before .before .before .before .place .result) 0),
+      number-small (getD numbers (c .before .before .before .before .place2 .result) 0),
+      c .before .before .number-size .ensures,
+      c .number-size2 .ensures,
     )
 
 add-total-2 : tie.Need-add-total-2 Inv-loop μ-loop
 add-total-2 c =
-    let numbers = c .before .before .before .before .before .before .before .before .before .before .before .before .before .args .numbers .now in
+    let start = c .before .before .before .before .before .before .before .before .before .before .before .before .before in
+    let numbers = start .args .numbers .now in
     omega (
       arith,
-      ten-digits (getD numbers (c .before .before .before .before .before .before .place .result) 0),
-      ten-digits (getD numbers (c .before .before .before .before .place2 .result) 0),
-      c .before .before .decimal-size .ensures,
-      c .decimal-size2 .ensures,
+      number-small (getD numbers (c .before .before .before .before .before .before .place .result) 0),
+      number-small (getD numbers (c .before .before .before .before .place2 .result) 0),
+      c .before .before .number-size .ensures,
+      c .number-size2 .ensures,
     )
 
 add-total-3 : tie.Need-add-total-3 Inv-loop μ-loop
 add-total-3 c =
     let start = c .before .before .before .before .before .before .before .before .before .before .before .before .before in
     let numbers = start .args .numbers .now in
+    let k = c .before .before .before .before .before .before .before .before .before .loop .k in
     omega (
       arith,
       start .pre .few-pairs,
-      objections-small numbers (start .args .objectors .now) (start .args .targets .now) (c .before .before .before .before .before .before .before .before .before .loop .k),
-      ten-digits (getD numbers (c .before .before .before .before .before .before .place .result) 0),
-      ten-digits (getD numbers (c .before .before .before .before .place2 .result) 0),
-      c .before .before .decimal-size .ensures,
-      c .decimal-size2 .ensures,
+      objections-small numbers (start .args .objectors .now) (start .args .targets .now) k,
+      number-small (getD numbers (c .before .before .before .before .before .before .place .result) 0),
+      number-small (getD numbers (c .before .before .before .before .place2 .result) 0),
+      c .before .before .number-size .ensures,
+      c .number-size2 .ensures,
     )
 
 add-k : tie.Need-add-k Inv-loop μ-loop
@@ -132,8 +135,8 @@ loop-again c =
         rows-longer (objectionText numbers (args .objectors .now) (args .targets .now)) k,
         ap length (own-text numbers (args .objectors .now) (args .targets .now) k (y .ensures) (x .ensures)),
         objection-length (getD numbers (y .result) 0) (getD numbers (x .result) 0),
-        c .before .before .decimal-size .ensures,
-        c .decimal-size2 .ensures,
+        c .before .before .number-size .ensures,
+        c .number-size2 .ensures,
       ),
     )
 
@@ -157,12 +160,12 @@ objections-size-spec =
     mul-place-2
     shared-slice-read-place-2
     place-requires-2
-    mul-decimal-size
-    shared-slice-read-decimal-size
-    decimal-size-requires
-    mul-decimal-size-2
-    shared-slice-read-decimal-size-2
-    decimal-size-requires-2
+    mul-number-size
+    shared-slice-read-number-size
+    number-size-requires
+    mul-number-size-2
+    shared-slice-read-number-size-2
+    number-size-requires-2
     add-total
     add-total-2
     add-total-3

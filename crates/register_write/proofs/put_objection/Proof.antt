@@ -13,8 +13,8 @@ put-word-requires c κs =
     let args = c .before .before .before .args in
     omega (arith, objection-length (args .objector) (args .target))
 
-put-decimal-requires : tie.Need-put-decimal-requires
-put-decimal-requires c κs =
+put-number-requires : tie.Need-put-number-requires
+put-number-requires c κs =
     let args = c .before .before .before .before .before .before .before .args in
     omega (arith, objection-length (args .objector) (args .target))
 
@@ -26,9 +26,10 @@ put-word-requires-2 c κs =
     let args = c .before .before .before .before .before .before .before .before .before .before .before .before .args in
     omega (arith, objection-length (args .objector) (args .target))
 
-put-decimal-requires-2 : tie.Need-put-decimal-requires-2
-put-decimal-requires-2 c κs =
-    let args = c .before .before .before .before .before .before .before .before .before .before .before .before .before .before .before .before .args in
+put-number-requires-2 : tie.Need-put-number-requires-2
+put-number-requires-2 c κs =
+    let objected = c .before .before .before .before .before .before .before .before in
+    let args = objected .before .before .before .before .before .before .before .before .args in
     omega (arith, objection-length (args .objector) (args .target))
 
 slice-aggregate-put-word-3 : tie.Need-slice-aggregate-put-word-3
@@ -36,7 +37,8 @@ slice-aggregate-put-word-3 c = search needs
 
 put-word-requires-3 : tie.Need-put-word-requires-3
 put-word-requires-3 c κs =
-    let args = c .before .before .before .before .before .before .before .before .before .before .before .before .before .before .before .before .before .before .before .before .before .args in
+    let objected = c .before .before .before .before .before .before .before .before .before .before .before .before .before in
+    let args = objected .before .before .before .before .before .before .before .before .args in
     omega (arith, objection-length (args .objector) (args .target))
 
 same-length : tie.Need-same-length
@@ -44,13 +46,13 @@ same-length c = search needs
 
 returns : tie.Need-returns
 returns c =
-    let start = c .before .before .before .before .before .before .before .before .before .before .before .before .before .before .before .before .before .before .before .before .before .before .before .before in
-    let put-word = c .before .before .before .before .before .before .before .before .before .before .before .before .before .before .before .before .before .before .before .before .put-word in
-    let put-decimal = c .before .before .before .before .before .before .before .before .before .before .before .before .before .before .before .before .put-decimal in
-    let put-word2 = c .before .before .before .before .before .before .before .before .before .before .before .put-word2 in
-    let put-decimal2 = c .before .before .before .before .before .before .before .put-decimal2 in
+    let tabbed = c .before .before .before .before .before .before .before .before .before .before .before in
+    let objected = tabbed .before .before .before .before .before in
+    let start = objected .before .before .before .before .before .before .before .before in
+    let put-word = objected .before .before .before .before .put-word in
+    let put-number2 = c .before .before .before .before .before .before .before .put-number2 in
     objection-put (start .args .room .now) (start .args .at) (start .args .objector) (start .args .target) (start .pre)
-    (put-word .ensures) (put-decimal .ensures) (put-word2 .ensures) (put-decimal2 .ensures)
+    (put-word .ensures) (objected .put-number .ensures) (tabbed .put-word2 .ensures) (put-number2 .ensures)
     (c .before .before .put-word3 .ensures)
 
 pub put-objection-spec : {M : Type 1} → statement M
@@ -59,10 +61,10 @@ put-objection-spec =
     (tie.spec
     slice-aggregate-put-word
     put-word-requires
-    put-decimal-requires
+    put-number-requires
     slice-aggregate-put-word-2
     put-word-requires-2
-    put-decimal-requires-2
+    put-number-requires-2
     slice-aggregate-put-word-3
     put-word-requires-3
     same-length

@@ -13,8 +13,8 @@ put-word-requires c κs =
     let args = c .before .before .before .args in
     omega (arith, statement-length (args .number) (args .mark))
 
-put-decimal-requires : tie.Need-put-decimal-requires
-put-decimal-requires c κs =
+put-number-requires : tie.Need-put-number-requires
+put-number-requires c κs =
     let args = c .before .before .before .before .before .before .before .args in
     omega (arith, statement-length (args .number) (args .mark))
 
@@ -28,11 +28,11 @@ same-length c = search needs
 
 returns : tie.Need-returns
 returns c =
-    let start = c .before .before .before .before .before .before .before .before .before .before .before .before .before .before in
-    let put-word = c .before .before .before .before .before .before .before .before .before .before .put-word in
-    let put-decimal = c .before .before .before .before .before .before .put-decimal in
+    let numbered = c .before .before .before .before .before .before in
+    let start = numbered .before .before .before .before .before .before .before .before in
+    let put-word = numbered .before .before .before .before .put-word in
     statement-put (start .args .room .now) (start .args .at) (start .args .number) (start .args .mark) (start .pre)
-    (put-word .ensures) (put-decimal .ensures) (c .before .before .put-mark .ensures)
+    (put-word .ensures) (numbered .put-number .ensures) (c .before .before .put-mark .ensures)
 
 pub put-statement-spec : {M : Type 1} → statement M
 put-statement-spec =
@@ -40,7 +40,7 @@ put-statement-spec =
     (tie.spec
     slice-aggregate-put-word
     put-word-requires
-    put-decimal-requires
+    put-number-requires
     put-mark-requires
     same-length
     returns)

@@ -6,7 +6,7 @@ use native.Mathlib.Omega.{arith}
 use lib.ListN.{length, getD}
 use Rattle.register.specs.Texts.{rowsTo}
 use Rattle.register_write.specs.Copied.{statementText}
-use Rattle.register.proofs.Digits.{ten-digits}
+use Rattle.register.proofs.Number.{number-small}
 use Rattle.register.proofs.TextRows.{no-rows, rows-longer}
 use Rattle.register_write.proofs.PutLines.{statement-length}
 use Rattle.register_write.proofs.Copied.{statements-small}
@@ -25,19 +25,19 @@ loop-holds : tie.Need-loop-holds Inv-loop μ-loop
 loop-holds c =
     (search needs, λ marks. sym (ap length (no-rows (statementText (c .before .args .numbers .now) marks))))
 
-mul-decimal-size : tie.Need-mul-decimal-size Inv-loop μ-loop
-mul-decimal-size c = search needs
+mul-number-size : tie.Need-mul-number-size Inv-loop μ-loop
+mul-number-size c = search needs
 
-shared-slice-read-decimal-size : tie.Need-shared-slice-read-decimal-size Inv-loop μ-loop
-shared-slice-read-decimal-size c = search needs
+shared-slice-read-number-size : tie.Need-shared-slice-read-number-size Inv-loop μ-loop
+shared-slice-read-number-size c = search needs
 
-decimal-size-requires : tie.Need-decimal-size-requires Inv-loop μ-loop
-decimal-size-requires c κs = search needs
+number-size-requires : tie.Need-number-size-requires Inv-loop μ-loop
+number-size-requires c κs = search needs
 
 add-total : tie.Need-add-total Inv-loop μ-loop
 add-total c =
     let numbers = c .before .before .before .before .before .args .numbers .now in
-    omega (arith, ten-digits (getD numbers (c .before .before .before .loop .i) 0), c .decimal-size .ensures)
+    omega (arith, number-small (getD numbers (c .before .before .before .loop .i) 0), c .number-size .ensures)
 
 add-total-2 : tie.Need-add-total-2 Inv-loop μ-loop
 add-total-2 c =
@@ -47,8 +47,8 @@ add-total-2 c =
       arith,
       loop .inv .1 [],
       statements-small numbers [] (loop .i),
-      ten-digits (getD numbers (loop .i) 0),
-      c .decimal-size .ensures,
+      number-small (getD numbers (loop .i) 0),
+      c .number-size .ensures,
     )
 
 add-i : tie.Need-add-i Inv-loop μ-loop
@@ -67,7 +67,7 @@ loop-again c =
         loop .inv .1 marks,
         rows-longer (statementText numbers marks) (loop .i),
         statement-length (getD numbers (loop .i) 0) (getD marks (loop .i) 0),
-        c .decimal-size .ensures,
+        c .number-size .ensures,
       ),
     )
 
@@ -84,9 +84,9 @@ statements-size-spec =
     Inv-loop
     μ-loop
     loop-holds
-    mul-decimal-size
-    shared-slice-read-decimal-size
-    decimal-size-requires
+    mul-number-size
+    shared-slice-read-number-size
+    number-size-requires
     add-total
     add-total-2
     add-i

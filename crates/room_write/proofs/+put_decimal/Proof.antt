@@ -4,7 +4,7 @@ use Prim.Native.Nat.{ℕ, _+_, _/_, _%_, _<_}
 use native.Mathlib.Omega.{arith}
 use lib.ListN.{length, length-set}
 use Rattle.register.specs.Texts.{decimal}
-use Rattle.register.proofs.Number.{decimal-one}
+use Rattle.register.proofs.Decimals.{decimal-one}
 use Rattle.room_write.specs.Writing.{twoDigits}
 use Rattle.room_write.proofs.Writing.{put-one, put-more}
 use Rattle.register.proofs.Digits.{one-digit}

@@ -8,7 +8,7 @@ use lists_check::Checked;
 ghost use Prim.Native.Nat.{_≤_};
 ghost use lib.ListN.{length};
 ghost use Rattle.game.specs.Book.{bookOf};
-ghost use Rattle.game.specs.Objection.{kindNumber, kindLength};
+ghost use Rattle.game.specs.Account.{accountNumber, accountLength};
 ghost use Rattle.lists.specs.Handed.{Handed};
 ghost use Rattle.label_solve.specs.Labelled.{Labelled};
 ghost use Rattle.promises.specs.KindCalls.{Objections, PairsKinds};
@@ -27,9 +27,9 @@ fn write_kinds(
     requires { ⌜ (length (now marks) ≤ length (now labels)) × (length (now marks) ≤ length (now turns)) ⌝ }
     requires { ⌜ (length (now objectors) ≤ length (now kinds)) × (length (now objectors) ≤ length (now lengths)) ⌝ }
     requires { ⌜ Labelled (bookOf (now marks) (now objectors) (now targets)) (now labels) (now turns) ⌝ }
-    ensures { λ _. ⌜ Objections (now (marks .entry)) (now (objectors .entry)) (now (targets .entry)) kindNumber
+    ensures { λ _. ⌜ Objections (now (marks .entry)) (now (objectors .entry)) (now (targets .entry)) accountNumber
         (length (now (objectors .entry))) (now (kinds .entry)) (now (kinds .exit))
-        × Objections (now (marks .entry)) (now (objectors .entry)) (now (targets .entry)) kindLength
+        × Objections (now (marks .entry)) (now (objectors .entry)) (now (targets .entry)) accountLength
         (length (now (objectors .entry))) (now (lengths .entry)) (now (lengths .exit)) ⌝ }
 {
     let mut k = 0;

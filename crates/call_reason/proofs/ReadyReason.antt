@@ -5,8 +5,7 @@ use mathlib.Core.Path.{ap, sym, _≡_, _∙_}
 use Prim.Native.Nat.{ℕ, _<_}
 use native.Mathlib.Omega.{arith}
 use lib.ListN.{length}
-use Rattle.game.specs.declared.Kind.{Kind}
-use Rattle.game.specs.declared.Kind.the-variants.{Idle}
+use Rattle.game.specs.Account.{Account}
 use Rattle.reason_find.specs.Ticks.{Chosen}
 use Rattle.register.specs.Register.{Register, objectorsOf, targetsOf, numbers, marksOf, Valid}
 use Rattle.register.proofs.Order.{objectors-counted, numbers-counted, marks-counted}
@@ -15,10 +14,10 @@ use Rattle.answer.proofs.Promises.{through}
 use Rattle.register_solve.specs.SolvedText.{Ready}
 use Rattle.register.specs.Texts.{rowsTo}
 use Rattle.listing.specs.Listing.{objectionRows}
-use Rattle.listing_row.specs.RowsAt.{kindAt, verdictAt, statementRowAt}
+use Rattle.listing_row.specs.RowsAt.{statementToldAt, objectionToldAt, statementRowAt}
 use Rattle.register.proofs.TextRows.{rows-same}
-use Rattle.game.proofs.UpTo.{upTo, length-upTo, getD-upTo}
-use Rattle.listing_row.proofs.RowTold.{own-row, own-means, own-kind}
+use Rattle.game.proofs.UpTo.{upTo}
+use Rattle.listing_row.proofs.RowTold.{own-row, own-statement, own-objections}
 use Rattle.reason.specs.Reasons.{IsReason}
 use Rattle.call_reason.specs.ReasonRows.{reasonRows, chosenPart, hasTick, chosenAt}
 use Rattle.reason.proofs.KeepRows.{rowIf, keep-rows}
@@ -27,33 +26,30 @@ use Rattle.call_reason.proofs.ReasonRows.{has-tick}
 -- The rows by the numbers of labels and lengths, of a register's own lists.
 module _ (R : Register) (nums marks objectors targets labels lengths : List ℕ)
     (ready : Ready R nums marks objectors targets labels lengths) (x : ℕ) (inside : List ℕ) where
-  abbrev κs : ℕ → Kind
-  κs = kindAt (objectorsOf R) (targetsOf R) labels lengths
+  abbrev objection : ℕ → Account
+  objection = objectionToldAt (objectorsOf R) (targetsOf R) labels lengths
 
   abbrev own-rows : List ℕ
   own-rows = reasonRows (numbers R) (objectorsOf R) (targetsOf R) labels lengths inside x
 
   rows-are : chosenPart (numbers R) (objectorsOf R) (targetsOf R) labels lengths inside ≡ objectionRows
-      (keep (hasTick inside) (R .objections)) (keep (hasTick inside) (upTo (length (R .objections)) κs))
+      (keep (hasTick inside) (R .objections)) (keep (hasTick inside) (upTo (length (R .objections)) objection))
   unfolding chosenPart
   rows-are =
       ap (λ m. rowsTo m (chosenAt (numbers R) (objectorsOf R) (targetsOf R) labels lengths inside))
       (objectors-counted R (ready .made .valid))
       ∙ rows-same (length (R .objections)) (chosenAt (numbers R) (objectorsOf R) (targetsOf R) labels lengths inside)
-      (rowIf (hasTick inside) (R .objections) κs)
+      (rowIf (hasTick inside) (R .objections) objection)
       (λ k h. ap (λ u. cond (hasTick inside k) u [])
       (own-row R nums marks objectors targets labels lengths ready k h))
-      ∙ sym (keep-rows (hasTick inside) (R .objections) κs)
+      ∙ sym (keep-rows (hasTick inside) (R .objections) objection)
 
   own-reason : x < length (R .statements) → Chosen (marksOf R) (objectorsOf R) (targetsOf R) x inside → IsReason R x own-rows
   own-reason l chosen = record {
-    verdict = verdictAt labels lengths x;
-    means = own-means R nums marks objectors targets labels lengths ready x l;
-    kinds = upTo (length (R .objections)) κs;
-    kind-each = length-upTo (length (R .objections)) κs;
-    of-kind =
-        λ k h. rw (getD-upTo (length (R .objections)) κs Idle k h)
-        (own-kind R nums marks objectors targets labels lengths ready k h);
+    statement = statementToldAt labels lengths x;
+    objections = upTo (length (R .objections)) objection;
+    of-statement = own-statement R nums marks objectors targets labels lengths ready x l;
+    of-objections = own-objections R nums marks objectors targets labels lengths ready;
     inside = hasTick inside;
     exactly = λ k h. through (has-tick inside k) (chosen k (omega (arith, objectors-counted R (ready .made .valid))));
     is = ap (λ u. statementRowAt (numbers R) labels lengths x ++ u) rows-are;

@@ -12,12 +12,12 @@ use native.Mathlib.Omega.{arith}
 use lib.Dec.{leb, eqb, T, eqb→eq, eqb-refl, ltb, leb→le, ltb→lt, T-not}
 use lib.ListN.{getD, length, List·getD-eq-default}
 use Rattle.game.specs.Book.{any, all, Listed, bookOf, Objects, Book, count}
-use Rattle.game.specs.Label.{Verdict, Means, is-open, labelNumber}
+use Rattle.game.specs.Label.{Verdict, Means}
+use Rattle.game.specs.Account.{Account, OfStatement, verdictAccount, kindAccount, accountNumber, untold}
 use Rattle.game.specs.Rules.{standsWithin, fallsWithin}
 use Rattle.game.specs.Objection.{orIdle, kindOf, OfKind}
 use Rattle.game.specs.Finish.{Finish}
 use Rattle.game.specs.declared.Kind.{Kind}
-use Rattle.game.specs.declared.Kind.the-variants.{Idle}
 use Rattle.game.proofs.Search.{both, any-at, all-at, and-of, or-cases, only-if}
 use Rattle.game.proofs.HandedBook.{objects-entry}
 use Rattle.game.proofs.Verdict.{verdict, verdict-means, verdictBy}
@@ -31,7 +31,7 @@ use Rattle.register.specs.Register.{Register, numbers, Issued, objectorNumbers,
 use Rattle.register.specs.Register.{objectorsOf, marksOf, bytes, placeOf}
 use Rattle.register.proofs.Order.{marks-counted, objectors-counted, register-in-order}
 use Rattle.listing.specs.Rows.{statementRow, numbersRow, objectionRow}
-use Rattle.listing.specs.Listing.{listing, objectionRows, IsListing, statementRows}
+use Rattle.listing.specs.Listing.{listing, objectionRows, IsListing, statementRows, ObjectionsTold}
 use Rattle.game.proofs.UpTo.{upTo, length-upTo, getD-upTo}
 use Rattle.reason.specs.Alone.{keep}
 use Rattle.sheet.specs.Sheet.{codeAt, bytesFor, IsSheet, total}
@@ -182,8 +182,15 @@ module _ (R : Register) where
   kindAt : ℕ → Kind
   kindAt k = orIdle (kindOf (verdictAt (getD (targetsOf R) k 0)) (verdictAt (getD (objectorsOf R) k 0)))
 
+  -- what is told of each
+  statementTold : ℕ → Account
+  statementTold x = verdictAccount (verdictAt x)
+
+  objectionTold : ℕ → Account
+  objectionTold k = kindAccount (kindAt k)
+
   listingOf : List ℕ
-  listingOf = listing R (upTo (length (R .statements)) verdictAt) (upTo (length (R .objections)) kindAt)
+  listingOf = listing R (upTo (length (R .statements)) statementTold) (upTo (length (R .objections)) objectionTold)
 
   inside : ℕ → ℕ → Bool
   inside x k =
@@ -192,8 +199,8 @@ module _ (R : Register) where
 
   reasonOf : ℕ → List ℕ
   reasonOf x =
-      statementRow (getD (numbers R) x 0) (verdictAt x) ++ objectionRows (keep (inside x) (R .objections))
-      (keep (inside x) (upTo (length (R .objections)) kindAt))
+      statementRow (getD (numbers R) x 0) (statementTold x) ++ objectionRows (keep (inside x) (R .objections))
+      (keep (inside x) (upTo (length (R .objections)) objectionTold))
 
   -- the statement of the number is at the place x
   named : ℕ → ℕ → Bool
@@ -228,15 +235,25 @@ module _ (R : Register) where
           is = some-is (kindOf (verdictAt x) (verdictAt y)) (never-occurs (book R) y x (verdictAt x) (verdictAt y) o p q);
         }
 
+    statement-is : (x : ℕ) → x < length (R .statements) → OfStatement (book R) x (statementTold x)
+    unfolding statementTold
+    statement-is x h = (verdictAt x, verdict-is x (placed x h), refl)
+
+    objections-are : ObjectionsTold R (upTo (length (R .objections)) objectionTold)
+    unfolding objectionTold
+    objections-are = record {
+      each = length-upTo (length (R .objections)) objectionTold;
+      is = λ k h. rw (getD-upTo (length (R .objections)) objectionTold untold k h) (kindAt k, kind-is k h, refl);
+    }
+
     listing-is : (l : List ℕ) → T (same l listingOf) → IsListing R l
     unfolding listingOf
     listing-is l t = record {
-      verdicts = upTo (length (R .statements)) verdictAt;
-      kinds = upTo (length (R .objections)) kindAt;
-      verdict-each = length-upTo (length (R .statements)) verdictAt;
-      kind-each = length-upTo (length (R .objections)) kindAt;
-      means = λ x h. rw (getD-upTo (length (R .statements)) verdictAt is-open x h) (verdict-is x (placed x h));
-      of-kind = λ k h. rw (getD-upTo (length (R .objections)) kindAt Idle k h) (kind-is k h);
+      statements = upTo (length (R .statements)) statementTold;
+      objections = upTo (length (R .objections)) objectionTold;
+      statement-each = length-upTo (length (R .statements)) statementTold;
+      of-statement = λ x h. rw (getD-upTo (length (R .statements)) statementTold untold x h) (statement-is x h);
+      of-objections = objections-are;
       is = same-is l listingOf t;
     }
 
@@ -244,11 +261,10 @@ module _ (R : Register) where
     reason-is : (x : ℕ) → x < length (R .statements) → (l : List ℕ) → T (same l (reasonOf x)) → IsReason R x l
     unfolding reasonOf inside
     reason-is x h l t = record {
-      verdict = verdictAt x;
-      means = verdict-is x (placed x h);
-      kinds = upTo (length (R .objections)) kindAt;
-      kind-each = length-upTo (length (R .objections)) kindAt;
-      of-kind = λ k i. rw (getD-upTo (length (R .objections)) kindAt Idle k i) (kind-is k i);
+      statement = statementTold x;
+      objections = upTo (length (R .objections)) objectionTold;
+      of-statement = statement-is x h;
+      of-objections = objections-are;
       inside = inside x;
       exactly = λ k i. within-exactly (book R) x (placed x h) (getD (objectorsOf R) k 0) (getD (targetsOf R) k 0);
       is = same-is l (reasonOf x) t;
@@ -257,7 +273,7 @@ module _ (R : Register) where
 -- A sheet has the codes of the computed verdicts, and nothing else is on it.
 module _ (R : Register) (sheet : List ℕ) where
   coded : ℕ → Bool
-  coded x = eqb (codeAt sheet x) (labelNumber (verdictAt R x))
+  coded x = eqb (codeAt sheet x) (accountNumber (statementTold R x))
 
   packed : Bool
   packed =
@@ -265,7 +281,7 @@ module _ (R : Register) (sheet : List ℕ) where
       && (all (book R .size) coded && all (4 * length sheet) (λ x. ltb x (book R .size) || eqb (codeAt sheet x) 0))
 
   packed-is : T packed → Valid R → IsSheet (book R) sheet
-  unfolding packed coded
+  unfolding packed coded statementTold
   packed-is t valid =
       let (p, q) = both (eqb (length sheet) (bytesFor (book R .size)) && all (length sheet) (λ k. ltb (getD sheet k 0) 256))
       (all (book R .size) coded && all (4 * length sheet) (λ x. ltb x (book R .size) || eqb (codeAt sheet x) 0)) t in
@@ -277,9 +293,9 @@ module _ (R : Register) (sheet : List ℕ) where
         bytes = λ k. byte bytes k (decLt k (length sheet));
         size = eqb→eq (length sheet) (bytesFor (book R .size)) size;
         each = λ x h. (
-          verdictAt R x,
-          verdict-is R valid x h,
-          eqb→eq (codeAt sheet x) (labelNumber (verdictAt R x)) (all-at (book R .size) coded each x h),
+          statementTold R x,
+          (verdictAt R x, verdict-is R valid x h, refl),
+          eqb→eq (codeAt sheet x) (accountNumber (statementTold R x)) (all-at (book R .size) coded each x h),
         );
         spare = λ x h. beyond spare x h (decLt x (4 * length sheet));
       }
@@ -402,19 +418,19 @@ pass-is (r ∷ rs) t = let (p, q) = both (passes r) (pass rs) t in (passes-is r 
 -- Every example that 01 marks P holds.
 pub table-holds : Every Says table
 unfolding table ascii extend fields value add guess registerOf same issued numbered differ known distinct ordered accepted
-    verdictAt kindAt listingOf kept added finishing passes pass any all bookOf standsWithin fallsWithin verdict verdictBy
+    verdictAt kindAt statementTold objectionTold listingOf kept added finishing passes pass any all bookOf standsWithin fallsWithin verdict verdictBy
     numberTest numberBytes decimal decimalIn bytes placeOf numbersRow statementRow statementRows objectionRow objectionRows
 table-holds = pass-is table tt
 
 pub reasons-hold : Every Says reasons
 unfolding reasons ascii extend fields value add guess registerOf same issued numbered differ known distinct ordered accepted
-    verdictAt kindAt inside reasonOf named passes pass any all bookOf standsWithin fallsWithin verdict verdictBy
+    verdictAt kindAt statementTold objectionTold inside reasonOf named passes pass any all bookOf standsWithin fallsWithin verdict verdictBy
     numberTest numberBytes decimal decimalIn bytes placeOf statementRow objectionRow objectionRows keep counts belonging reaching
 reasons-hold = pass-is reasons tt
 
 pub sheets-hold : Every Says sheets
 unfolding sheets ascii extend fields value add guess registerOf same issued numbered differ known distinct ordered accepted
-    verdictAt coded packed codeAt total count passes pass any all bookOf standsWithin fallsWithin verdict verdictBy
+    verdictAt statementTold coded packed codeAt total count passes pass any all bookOf standsWithin fallsWithin verdict verdictBy
     numberTest numberBytes decimal decimalIn bytes placeOf
 sheets-hold = pass-is sheets tt
 

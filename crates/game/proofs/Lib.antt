@@ -1,3 +1,4 @@
+pub mod Account
 pub mod Agree
 pub mod Argument
 pub mod BookDemands

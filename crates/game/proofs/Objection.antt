@@ -8,7 +8,8 @@ use native.Mathlib.Numerals.{add-one}
 use native.Mathlib.Omega.{arith}
 use lib.Dec.{eqb}
 use Rattle.game.specs.Book.{Book, Objects, Listed}
-use Rattle.game.specs.Label.{Verdict, Means, falls, stands, is-open, labelNumber, lengthNumber}
+use Rattle.game.specs.Label.{Verdict, Means, falls, stands, is-open}
+use Rattle.game.specs.Account.{labelNumber, lengthNumber}
 use Rattle.game.specs.Objection.{kindOf, OfKind}
 use Rattle.game.specs.declared.Kind.{Kind}
 use Rattle.game.specs.declared.Kind.the-variants.{Felling, Idle, Delaying, Standoff}

@@ -69,11 +69,6 @@ module _ (B : Book) where
   pub means-unique : (x : ℕ) (v w : Verdict) → Means B x v → Means B x w → v ≡ w
   means-unique x v w p q = ruled-unique x v w (means-ruled x v p) (means-ruled x w q)
 
-  -- so what is said of a statement by a number of its verdict is one
-  pub number-unique : (number : Verdict → ℕ) (x e e′ : ℕ) → (v : Verdict) × Means B x v × (e ≡ number v) → (v : Verdict)
-      × Means B x v × (e′ ≡ number v) → e ≡ e′
-  number-unique number x e e′ (v, m, p) (w, n, q) = p ∙ ap number (means-unique x v w m n) ∙ sym q
-
   settled-le : (n m x : ℕ) → n ≤ m → T (settled B n x) → T (settled B m x)
   settled-le n m x h t = go (settled-cases B n x t)
     where

@@ -1,5 +1,5 @@
--- Labels and lengths, by the forced win of Game, and the numbers that 01 gives them. There is no other meaning of falls,
--- stands, open and length in the project.
+-- Labels and lengths, by the forced win of Game. There is no other meaning of falls, stands, open and length in the project. What
+-- is told of them, `Account` says.
 use mathlib.Core.Path.{_≡_}
 use Prim.Native.Nat.{ℕ, _≤_}
 use Rattle.game.specs.Book.{Book}
@@ -31,21 +31,3 @@ abbrev pub Means : Book → ℕ → Verdict → Type 0
 Means B x is-open = Open B x
 Means B x (stands n) = Least (λ m. SecondWins B m x) n
 Means B x (falls n) = Least (λ m. FirstWins B m x) n
-
--- "As numbers, labels are 0 open, 1 stands, 2 falls, and a length of `-` is 65,535."
-abbrev pub labelNumber : Verdict → ℕ
-labelNumber is-open = 0
-labelNumber (stands n) = 1
-labelNumber (falls n) = 2
-
-abbrev pub lengthNumber : Verdict → ℕ
-lengthNumber is-open = 65535
-lengthNumber (stands n) = n
-lengthNumber (falls n) = n
-
--- The numbers `label` and `length` are those of x's label and length.
-pub record Told (B : Book) (x label length : ℕ) : Type 0 where
-  pub verdict : Verdict
-  pub means : Means B x verdict
-  pub label-is : label ≡ labelNumber verdict
-  pub length-is : length ≡ lengthNumber verdict

@@ -1,5 +1,5 @@
--- The kinds of objection, "fixed by the label of the target, then of the objector" (000, Figure 2), their lengths, and
--- the numbers of both. The kind is the enum of the program itself: a felling or delaying one holds its length.
+-- The kinds of objection, "fixed by the label of the target, then of the objector" (000, Figure 2), and their
+-- lengths. What is told of them, `Account` says. The kind is the enum of the program itself: a felling or delaying one holds its length.
 use mathlib.Core.Option.{Option, some, none}
 use mathlib.Core.Path.{_≡_}
 use Prim.Native.Nat.{suc, ℕ}
@@ -29,20 +29,6 @@ pub record OfKind (B : Book) (y x : ℕ) (κ : Kind) : Type 0 where
   pub target-means : Means B x target
   pub objector-means : Means B y objector
   pub is : kindOf target objector ≡ some κ
-
--- the kinds' numbers: 0 idle, 1 felling, 2 delaying, 3 standoff
-abbrev pub kindNumber : Kind → ℕ
-kindNumber Idle = 0
-kindNumber (Felling n) = 1
-kindNumber (Delaying n) = 2
-kindNumber Standoff = 3
-
--- "Standoff and idle have `-`", which is 65,535
-abbrev pub kindLength : Kind → ℕ
-kindLength Idle = 65535
-kindLength (Felling n) = n
-kindLength (Delaying n) = n
-kindLength Standoff = 65535
 
 -- the kind of the table; idle where the table says "never occurs"
 abbrev pub orIdle : Option Kind → Kind

@@ -6,7 +6,8 @@ use Prim.Native.Nat.{ℕ, _+_, _≤_, _<_}
 use native.Mathlib.Omega.{arith}
 use lib.ListN.{length, getD}
 use Rattle.game.specs.Book.{bookOf}
-use Rattle.game.specs.Label.{Verdict, Means, falls, stands, is-open, labelNumber, lengthNumber}
+use Rattle.game.specs.Label.{Verdict, Means, falls, stands, is-open}
+use Rattle.game.specs.Account.{labelNumber, lengthNumber}
 use Rattle.game.specs.Objection.{kindOf, OfKind}
 use Rattle.game.specs.declared.Kind.{Kind}
 use Rattle.game.proofs.Verdict.{length-bound}

@@ -4,7 +4,7 @@ use mathlib.Core.Path.{_≡_}
 use Prim.Native.Nat.{ℕ, _≤_}
 use lib.ListN.{getD, length}
 use Rattle.game.specs.Book.{Book, Listed, bookOf}
-use Rattle.game.specs.Label.{Told}
+use Rattle.game.specs.Account.{Told}
 use Rattle.lists.specs.Handed.{Handed}
 
 -- each listed statement has its own label and length

@@ -1,42 +1,43 @@
--- The listing of a register, byte by byte, from the verdicts of its statements and the kinds of its objections: "Header: the
--- word, statements, objections. Then number, label, length, in listed order. Then objector, target, kind, length, in the
--- order of the lines." No other listing is right: `IsListing` is all that a reader has to believe.
+-- The listing of a register, byte by byte, from what is told of its statements and of its objections: "Header: the word,
+-- statements, objections. Then number, label, length, in listed order. Then objector, target, kind, length, in the order of the
+-- lines." No other listing is right: `IsListing` is all that a reader has to believe.
 use mathlib.Core.List.{List, [], _∷_, _++_}
 use mathlib.Core.Path.{_≡_}
 use Prim.Native.Nat.{ℕ, _<_}
 use lib.ListN.{length, getD}
-use Rattle.game.specs.Label.{Verdict, Means, is-open}
-use Rattle.game.specs.Objection.{OfKind}
-use Rattle.game.specs.declared.Kind.{Kind}
-use Rattle.game.specs.declared.Kind.the-variants.{Idle}
+use Rattle.game.specs.Account.{Account, OfStatement, OfObjection, untold}
 use Rattle.register.specs.declared.StatementLine.{StatementLine}
 use Rattle.register.specs.declared.ObjectionLine.{ObjectionLine}
 use Rattle.register.specs.Register.{Register, book, objectorsOf, targetsOf}
 use Rattle.listing.specs.Rows.{statementRow, objectionRow, header}
 
--- the rows of the statements with their verdicts, and of the objections with their kinds, in order
-unfoldable pub statementRows : List StatementLine → List Verdict → List ℕ
-statementRows [] vs = []
+-- the rows of the statements and of the objections with what is told of each, in order
+unfoldable pub statementRows : List StatementLine → List Account → List ℕ
+statementRows [] told = []
 statementRows (st ∷ sts) [] = []
-statementRows (st ∷ sts) (v ∷ vs) = statementRow (st .number) v ++ statementRows sts vs
+statementRows (st ∷ sts) (a ∷ told) = statementRow (st .number) a ++ statementRows sts told
 
-unfoldable pub objectionRows : List ObjectionLine → List Kind → List ℕ
-objectionRows [] κs = []
+unfoldable pub objectionRows : List ObjectionLine → List Account → List ℕ
+objectionRows [] told = []
 objectionRows (o ∷ os) [] = []
-objectionRows (o ∷ os) (κ ∷ κs) = objectionRow (o .objector) (o .target) κ ++ objectionRows os κs
+objectionRows (o ∷ os) (a ∷ told) = objectionRow (o .objector) (o .target) a ++ objectionRows os told
 
-abbrev pub listing : Register → List Verdict → List Kind → List ℕ
-listing R vs κs =
+abbrev pub listing : Register → (statements objections : List Account) → List ℕ
+listing R statements objections =
     header (length (R .statements)) (length (R .objections)) ++
-    (statementRows (R .statements) vs ++ objectionRows (R .objections) κs)
+    (statementRows (R .statements) statements ++ objectionRows (R .objections) objections)
 
--- l is the listing of the register: that of its statements' own verdicts and of its objections' own kinds
+-- one account for each objection of the register, what is told of it
+pub record ObjectionsTold (R : Register) (told : List Account) : Type 0 where
+  pub each : length told ≡ length (R .objections)
+  pub is : (k : ℕ) → k < length (R .objections)
+      → OfObjection (book R) (getD (objectorsOf R) k 0) (getD (targetsOf R) k 0) (getD told k untold)
+
+-- l is the listing of the register: that of what is told of its own statements and objections
 pub record IsListing (R : Register) (l : List ℕ) : Type 0 where
-  pub verdicts : List Verdict
-  pub kinds : List Kind
-  pub verdict-each : length verdicts ≡ length (R .statements)
-  pub kind-each : length kinds ≡ length (R .objections)
-  pub means : (x : ℕ) → x < length (R .statements) → Means (book R) x (getD verdicts x is-open)
-  pub of-kind : (k : ℕ) → k < length (R .objections)
-      → OfKind (book R) (getD (objectorsOf R) k 0) (getD (targetsOf R) k 0) (getD kinds k Idle)
-  pub is : l ≡ listing R verdicts kinds
+  pub statements : List Account
+  pub objections : List Account
+  pub statement-each : length statements ≡ length (R .statements)
+  pub of-statement : (x : ℕ) → x < length (R .statements) → OfStatement (book R) x (getD statements x untold)
+  pub of-objections : ObjectionsTold R objections
+  pub is : l ≡ listing R statements objections

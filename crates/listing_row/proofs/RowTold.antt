@@ -6,7 +6,8 @@ use Prim.Native.Nat.{ℕ, _<_}
 use native.Mathlib.Omega.{arith}
 use lib.ListN.{length, getD, length-map}
 use Rattle.game.specs.Book.{Book, bookOf, Listed, Objects}
-use Rattle.game.specs.Label.{Verdict, labelNumber, lengthNumber, is-open, stands, falls, Means, Told}
+use Rattle.game.specs.Label.{Verdict, is-open, stands, falls, Means}
+use Rattle.game.specs.Account.{labelNumber, lengthNumber, Told, Account, OfStatement, kindAccount, untold}
 use Rattle.game.specs.Objection.{OfKind, orIdle, kindOf}
 use Rattle.game.specs.declared.Kind.{Kind}
 use Rattle.game.proofs.Verdict.{means-unique}
@@ -17,8 +18,10 @@ use Rattle.register.specs.Register.{Register, numbers, marksOf, objectorsOf, ta
 use Rattle.register.proofs.Order.{marks-counted, objectors-counted, register-in-order, numbers-counted, number-there}
 use Rattle.register_solve.specs.SolvedText.{Ready}
 use Rattle.listing.specs.Rows.{objectionRow}
+use Rattle.listing.specs.Listing.{ObjectionsTold}
+use Rattle.game.proofs.UpTo.{upTo, length-upTo, getD-upTo}
 use Rattle.listing_row.specs.Said.{said}
-use Rattle.listing_row.specs.RowsAt.{Listable, verdictAt, kindAt, objectionRowAt}
+use Rattle.listing_row.specs.RowsAt.{Listable, verdictAt, kindAt, statementToldAt, objectionToldAt, objectionRowAt}
 use Rattle.listing_row.proofs.Said.{said-open, said-stands, said-falls}
 
 told-said : (v : Verdict) (l n : ℕ) → l ≡ labelNumber v → n ≡ lengthNumber v → said l n ≡ v
@@ -54,10 +57,11 @@ module _ (nums marks objectors targets labels lengths : List ℕ)
       sym (ap orIdle (ap₂ kindOf (sym t) (sym s) ∙ o .is))
 
   pub row-told : (k y x : ℕ) (κ : Kind) → k < length objectors → y ≡ getD objectors k 0 → x ≡ getD targets k 0
-      → OfKind B (getD objectors k 0) (getD targets k 0) κ → objectionRow (getD nums y 0) (getD nums x 0) κ ≡ objectionRowAt nums
-      objectors targets labels lengths k
+      → OfKind B (getD objectors k 0) (getD targets k 0) κ → objectionRow (getD nums y 0) (getD nums x 0)
+      (kindAccount κ) ≡ objectionRowAt nums objectors targets labels lengths k
   row-told k y x κ h p q o =
-      rw (p, q) (ap (objectionRow (getD nums (getD objectors k 0) 0) (getD nums (getD targets k 0) 0)) (kind-told k κ h o))
+      rw (p, q) (ap (λ u. objectionRow (getD nums (getD objectors k 0) 0) (getD nums (getD targets k 0) 0) (kindAccount u))
+      (kind-told k κ h o))
 
   kind-of-entry : (k : ℕ) → k < length objectors → OfKind B (getD objectors k 0) (getD targets k 0)
       (kindAt objectors targets labels lengths k)
@@ -99,23 +103,29 @@ module _ (R : Register) (nums marks objectors targets labels lengths : List ℕ)
       number-there R (targetNumbers R) k (omega (arith, length-map (R .objections) (λ (o : ObjectionLine). o .target)))
       (ready .made .valid .known k h .1)
 
-  abbrev vs : ℕ → Verdict
-  vs = verdictAt labels lengths
+  abbrev told : ℕ → Account
+  told = objectionToldAt (objectorsOf R) (targetsOf R) labels lengths
 
-  abbrev κs : ℕ → Kind
-  κs = kindAt (objectorsOf R) (targetsOf R) labels lengths
+  pub own-statement : (x : ℕ) → x < length (R .statements) → OfStatement (book R) x (statementToldAt labels lengths x)
+  own-statement x h = (
+    verdictAt labels lengths x,
+    verdict-told (numbers R) (marksOf R) (objectorsOf R) (targetsOf R) labels lengths own x
+        (omega (arith, marks-counted R (ready .made .valid))),
+    refl,
+  )
 
-  pub own-means : (x : ℕ) → x < length (R .statements) → Means (book R) x (vs x)
-  own-means x h =
-      verdict-told (numbers R) (marksOf R) (objectorsOf R) (targetsOf R) labels lengths own x
-      (omega (arith, marks-counted R (ready .made .valid)))
-
-  pub own-kind : (k : ℕ) → k < length (R .objections) → OfKind (book R) (getD (objectorsOf R) k 0) (getD (targetsOf R) k 0) (κs k)
-  own-kind k h =
+  pub own-objections : ObjectionsTold R (upTo (length (R .objections)) told)
+  own-objections = record {
+    each = length-upTo (length (R .objections)) told;
+    is = λ k h. rw (getD-upTo (length (R .objections)) told untold k h) (
+      kindAt (objectorsOf R) (targetsOf R) labels lengths k,
       kind-of-entry (numbers R) (marksOf R) (objectorsOf R) (targetsOf R) labels lengths own k
-      (omega (arith, objectors-counted R (ready .made .valid)))
+          (omega (arith, objectors-counted R (ready .made .valid))),
+      refl,
+    );
+  }
 
   pub own-row : (k : ℕ) → k < length (R .objections)
       → objectionRowAt (numbers R) (objectorsOf R) (targetsOf R) labels lengths k ≡ objectionRow (getD (objectorNumbers R) k 0)
-      (getD (targetNumbers R) k 0) (κs k)
-  own-row k h = ap₂ (λ y x. objectionRow y x (κs k)) (objector-number k h) (target-number k h)
+      (getD (targetNumbers R) k 0) (told k)
+  own-row k h = ap₂ (λ y x. objectionRow y x (told k)) (objector-number k h) (target-number k h)

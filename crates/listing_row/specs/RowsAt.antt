@@ -6,6 +6,7 @@ use Prim.Native.Nat.{ℕ, _≤_}
 use lib.ListN.{getD, length}
 use Rattle.game.specs.Book.{bookOf}
 use Rattle.game.specs.Label.{Verdict}
+use Rattle.game.specs.Account.{Account, verdictAccount, kindAccount}
 use Rattle.game.specs.Objection.{orIdle, kindOf}
 use Rattle.game.specs.declared.Kind.{Kind}
 use Rattle.lists.specs.Handed.{Handed}
@@ -20,12 +21,20 @@ abbrev pub kindAt : (objectors targets labels lengths : List ℕ) → ℕ → Ki
 kindAt objectors targets labels lengths k =
     orIdle (kindOf (verdictAt labels lengths (getD targets k 0)) (verdictAt labels lengths (getD objectors k 0)))
 
+-- what is told of the statement at a place, and of the entry k
+abbrev pub statementToldAt : (labels lengths : List ℕ) → ℕ → Account
+statementToldAt labels lengths x = verdictAccount (verdictAt labels lengths x)
+
+abbrev pub objectionToldAt : (objectors targets labels lengths : List ℕ) → ℕ → Account
+objectionToldAt objectors targets labels lengths k = kindAccount (kindAt objectors targets labels lengths k)
+
 abbrev pub statementRowAt : (nums labels lengths : List ℕ) → ℕ → List ℕ
-statementRowAt nums labels lengths i = statementRow (getD nums i 0) (verdictAt labels lengths i)
+statementRowAt nums labels lengths i = statementRow (getD nums i 0) (statementToldAt labels lengths i)
 
 abbrev pub objectionRowAt : (nums objectors targets labels lengths : List ℕ) → ℕ → List ℕ
 objectionRowAt nums objectors targets labels lengths k =
-    objectionRow (getD nums (getD objectors k 0) 0) (getD nums (getD targets k 0) 0) (kindAt objectors targets labels lengths k)
+    objectionRow (getD nums (getD objectors k 0) 0) (getD nums (getD targets k 0) 0)
+    (objectionToldAt objectors targets labels lengths k)
 
 -- the lists are in order, belong together, and have the labels and lengths of their book
 pub record Listable (nums marks objectors targets labels lengths : List ℕ) : Type 0 where

@@ -11,15 +11,16 @@ ghost use mathlib.Core.List.{_++_};
 ghost use mathlib.Core.Path.{_≡_};
 ghost use Prim.Native.Nat.{_<_, _≤_};
 ghost use lib.ListN.{length, drop};
+ghost use Rattle.game.specs.Account.{kindAccount};
 ghost use Rattle.room_write.specs.Writing.{RoomFor, Put};
 ghost use Rattle.listing_row.specs.RowsAt.{Listable, objectionRowAt};
 ghost use Rattle.register.specs.Texts.{decimal};
-ghost use Rattle.listing.specs.Rows.{verdictFields, kindFields, statementRow, objectionRow, header, numbersRow, refusedRow};
-ghost use Rattle.listing_row.specs.Said.{said};
+ghost use Rattle.listing.specs.Rows.{accountFields, statementRow, objectionRow, header, numbersRow, refusedRow};
+ghost use Rattle.listing_row.specs.Said.{accountSaid};
 
 // The size of a label and its length, with the tab between them.
 fn verdict_size(label: u8, turns: u16) -> usize
-    ensures { λ r. ⌜ r ≡ length (verdictFields (said label turns)) ⌝ }
+    ensures { λ r. ⌜ r ≡ length (accountFields (accountSaid label turns)) ⌝ }
 {
     match label {
         2 => 6 + decimal_size(turns as u32),
@@ -30,7 +31,7 @@ fn verdict_size(label: u8, turns: u16) -> usize
 
 // The size of a kind and its length, with the tab between them.
 fn kind_size(kind: Kind) -> usize
-    ensures { λ r. ⌜ r ≡ length (kindFields kind) ⌝ }
+    ensures { λ r. ⌜ r ≡ length (accountFields (kindAccount kind)) ⌝ }
 {
     match kind {
         Kind::Idle => 6,
@@ -42,13 +43,13 @@ fn kind_size(kind: Kind) -> usize
 
 // The size of a statement's row.
 pub fn statement_size(number: u32, label: u8, turns: u16) -> usize
-    ensures { λ r. ⌜ r ≡ length (statementRow number (said label turns)) ⌝ }
+    ensures { λ r. ⌜ r ≡ length (statementRow number (accountSaid label turns)) ⌝ }
 {
     number_size(number) + 1 + verdict_size(label, turns) + 1
 }
 
 pub fn objection_size(objector: u32, target: u32, kind: Kind) -> usize
-    ensures { λ r. ⌜ r ≡ length (objectionRow objector target kind) ⌝ }
+    ensures { λ r. ⌜ r ≡ length (objectionRow objector target (kindAccount kind)) ⌝ }
 {
     number_size(objector) + 1 + number_size(target) + 1 + kind_size(kind) + 1
 }
@@ -71,8 +72,8 @@ fn put_counted(room: &mut [u8], at: usize, word: &[u8], turns: u16) -> usize
 
 // A label and its length, with the tab between them.
 fn put_verdict(room: &mut [u8], at: usize, label: u8, turns: u16) -> usize
-    requires { ⌜ RoomFor (now room) at (verdictFields (said label turns)) ⌝ }
-    ensures { λ r. ⌜ Put (now (room .entry)) at (verdictFields (said label turns)) r (now (room .exit)) ⌝ }
+    requires { ⌜ RoomFor (now room) at (accountFields (accountSaid label turns)) ⌝ }
+    ensures { λ r. ⌜ Put (now (room .entry)) at (accountFields (accountSaid label turns)) r (now (room .exit)) ⌝ }
 {
     match label {
         2 => put_counted(room, at, b"falls\t", turns),
@@ -83,8 +84,8 @@ fn put_verdict(room: &mut [u8], at: usize, label: u8, turns: u16) -> usize
 
 // A kind and its length, with the tab between them.
 fn put_kind(room: &mut [u8], at: usize, kind: Kind) -> usize
-    requires { ⌜ RoomFor (now room) at (kindFields kind) ⌝ }
-    ensures { λ r. ⌜ Put (now (room .entry)) at (kindFields kind) r (now (room .exit)) ⌝ }
+    requires { ⌜ RoomFor (now room) at (accountFields (kindAccount kind)) ⌝ }
+    ensures { λ r. ⌜ Put (now (room .entry)) at (accountFields (kindAccount kind)) r (now (room .exit)) ⌝ }
 {
     match kind {
         Kind::Idle => put_word(room, at, b"idle\t-"),
@@ -96,8 +97,8 @@ fn put_kind(room: &mut [u8], at: usize, kind: Kind) -> usize
 
 // A statement's row.
 pub fn put_statement(room: &mut [u8], at: usize, number: u32, label: u8, turns: u16) -> usize
-    requires { ⌜ RoomFor (now room) at (statementRow number (said label turns)) ⌝ }
-    ensures { λ r. ⌜ Put (now (room .entry)) at (statementRow number (said label turns)) r (now (room .exit)) ⌝ }
+    requires { ⌜ RoomFor (now room) at (statementRow number (accountSaid label turns)) ⌝ }
+    ensures { λ r. ⌜ Put (now (room .entry)) at (statementRow number (accountSaid label turns)) r (now (room .exit)) ⌝ }
 {
     let tab = put_number(room, at, number);
     let verdict = put_word(room, tab, b"\t");
@@ -106,8 +107,8 @@ pub fn put_statement(room: &mut [u8], at: usize, number: u32, label: u8, turns: 
 }
 
 pub fn put_objection(room: &mut [u8], at: usize, objector: u32, target: u32, kind: Kind) -> usize
-    requires { ⌜ RoomFor (now room) at (objectionRow objector target kind) ⌝ }
-    ensures { λ r. ⌜ Put (now (room .entry)) at (objectionRow objector target kind) r (now (room .exit)) ⌝ }
+    requires { ⌜ RoomFor (now room) at (objectionRow objector target (kindAccount kind)) ⌝ }
+    ensures { λ r. ⌜ Put (now (room .entry)) at (objectionRow objector target (kindAccount kind)) r (now (room .exit)) ⌝ }
 {
     let first_tab = put_number(room, at, objector);
     let against = put_word(room, first_tab, b"\t");

@@ -6,12 +6,10 @@ use Prim.Native.Nat.{ℕ, _≤_, _<_}
 use native.Mathlib.Omega.{arith}
 use lib.ListN.{length, length-map, getD, List·getD-append, drop}
 use Rattle.game.specs.Book.{bookOf, Listed}
-use Rattle.game.specs.Label.{labelNumber, is-open, lengthNumber}
+use Rattle.game.specs.Account.{accountNumber, accountLength, untold}
 use Rattle.game.specs.Argument.{Argument}
 use Rattle.game.proofs.Argument.{line-unique, line-listed}
-use Rattle.game.specs.Objection.{kindLength, kindNumber}
-use Rattle.game.specs.declared.Kind.the-variants.{Idle}
-use Rattle.game.proofs.Objection.{kind-unique}
+use Rattle.game.proofs.Account.{objection-once}
 use Rattle.lists.specs.Refuses.{Lists}
 use Rattle.register.specs.Register.{Register, Places, Issued, book, numbers, written, objectorsOf, targetsOf, objectorNumbers}
 use Rattle.register.specs.Register.{targetNumbers}
@@ -275,27 +273,27 @@ module _ (marks objectors targets : List ℕ) where
       → (x : ℕ) → x < length marks → LabelSays (bookOf marks objectors targets) x (getD after x 0)
   unfolding bookOf
   pairs-labels-say room n after (m, l, (e, b)) x h =
-      let (v, m, p) = b .each x (omega (arith, e)) in subst (LabelSays (bookOf marks objectors targets) x) (sym p)
-      (label-says (bookOf marks objectors targets) x h v m)
+      let (a, of, p) = b .each x (omega (arith, e)) in
+      subst (LabelSays (bookOf marks objectors targets) x) (sym p) (label-says (bookOf marks objectors targets) x h a of)
 
   pub pairs-lengths-say : (room : List ℕ) (n : ℕ) (after : List ℕ) → PairsLengths marks objectors targets room (Given n) after
       → (x : ℕ) → x < length marks → LengthSays (bookOf marks objectors targets) x (getD after x 0)
   unfolding bookOf
   pairs-lengths-say room n after (m, l, (e, b)) x h =
-      let (v, m, p) = b .each x (omega (arith, e)) in subst (LengthSays (bookOf marks objectors targets) x) (sym p)
-      (length-says (bookOf marks objectors targets) x h v m)
+      let (a, of, p) = b .each x (omega (arith, e)) in
+      subst (LengthSays (bookOf marks objectors targets) x) (sym p) (length-says (bookOf marks objectors targets) x h a of)
 
   pub pairs-kinds-say : (rooms : List ℕ × List ℕ) (n : ℕ) (after : List ℕ × List ℕ)
       → PairsKinds marks objectors targets rooms (Given n) after → (k : ℕ) → k < length objectors
       → KindSays (bookOf marks objectors targets) (getD objectors k 0) (getD targets k 0) (getD (after .0) k 0)
       (getD (after .1) k 0)
   pairs-kinds-say rooms n after (m, l, (e, b, c)) k h =
-      let (κ, o, p) = b .each k (omega (arith, e)) in
-      let (κ′, o′, q) = c .each k (omega (arith, e)) in
+      let (a, of, p) = b .each k (omega (arith, e)) in
+      let (a′, of′, q) = c .each k (omega (arith, e)) in
       let B = bookOf marks objectors targets in
       let y = getD objectors k 0 in
       let x = getD targets k 0 in
-      subst₂ (KindSays B y x) (sym p) (ap kindLength (kind-unique B y x κ κ′ o o′) ∙ sym q) (kind-says B y x κ o)
+      subst₂ (KindSays B y x) (sym p) (ap accountLength (objection-once B y x a a′ of of′) ∙ sym q) (kind-says B y x a of)
 
 -- and so of moves
 pub moves-labels-say : (marks from to room : List ℕ) (n : ℕ) (after : List ℕ) → MovesLabels marks from to room (Given n) after
@@ -313,8 +311,8 @@ module _ (s : List ℕ) where
   text-labels-say room n after (R, a, (e, b)) = (
     R,
     a,
-    λ x h. let (v, m, p) = b .each x (omega (arith, e)) in
-        subst (LabelSays (book R) x) (sym p) (label-says (book R) x (omega (arith, marks-counted R (a .valid))) v m),
+    λ x h. let (told, of, p) = b .each x (omega (arith, e)) in
+        subst (LabelSays (book R) x) (sym p) (label-says (book R) x (omega (arith, marks-counted R (a .valid))) told of),
   )
 
   pub text-lengths-say : (room : List ℕ) (n : ℕ) (after : List ℕ) → TextLengths s room (Given n) after → (R : Register)
@@ -323,37 +321,39 @@ module _ (s : List ℕ) where
   text-lengths-say room n after (R, a, (e, b)) = (
     R,
     a,
-    λ x h. let (v, m, p) = b .each x (omega (arith, e)) in
-        subst (LengthSays (book R) x) (sym p) (length-says (book R) x (omega (arith, marks-counted R (a .valid))) v m),
+    λ x h. let (told, of, p) = b .each x (omega (arith, e)) in
+        subst (LengthSays (book R) x) (sym p) (length-says (book R) x (omega (arith, marks-counted R (a .valid))) told of),
   )
 
-  -- the listing's rows: the words and lengths are those of verdicts and kinds that say so
+  -- the listing's rows: what is told there says so
   pub listing-says : (R : Register) (l : List ℕ) → Accepts s R → (i : IsListing R l)
-      → ((x : ℕ) → x < length (R .statements) → LabelSays (book R) x (labelNumber (getD (i .verdicts) x is-open))
-      × LengthSays (book R) x (lengthNumber (getD (i .verdicts) x is-open)))
+      → ((x : ℕ) → x < length (R .statements) → LabelSays (book R) x (accountNumber (getD (i .statements) x untold))
+      × LengthSays (book R) x (accountLength (getD (i .statements) x untold)))
       × ((k : ℕ) → k < length (R .objections) → KindSays (book R) (getD (objectorsOf R) k 0) (getD (targetsOf R) k 0)
-      (kindNumber (getD (i .kinds) k Idle)) (kindLength (getD (i .kinds) k Idle)))
+      (accountNumber (getD (i .objections) k untold)) (accountLength (getD (i .objections) k untold)))
   unfolding bookOf
   listing-says R l a i = (
     λ x h.
         let g : Listed (book R) x = omega (arith, marks-counted R (a .valid)) in (
-          label-says (book R) x g (getD (i .verdicts) x is-open) (i .means x h),
-          length-says (book R) x g (getD (i .verdicts) x is-open) (i .means x h),
+          label-says (book R) x g (getD (i .statements) x untold) (i .of-statement x h),
+          length-says (book R) x g (getD (i .statements) x untold) (i .of-statement x h),
         ),
-    λ k h. kind-says (book R) (getD (objectorsOf R) k 0) (getD (targetsOf R) k 0) (getD (i .kinds) k Idle) (i .of-kind k h),
+    λ k h. kind-says (book R) (getD (objectorsOf R) k 0) (getD (targetsOf R) k 0) (getD (i .objections) k untold)
+        (i .of-objections .is k h),
   )
 
   -- and so are those of a reason's rows
   pub reason-says : (R : Register) (x : ℕ) (l : List ℕ) → Accepts s R → x < length (R .statements) → (i : IsReason R x l)
-      → LabelSays (book R) x (labelNumber (i .verdict)) × LengthSays (book R) x (lengthNumber (i .verdict))
+      → LabelSays (book R) x (accountNumber (i .statement)) × LengthSays (book R) x (accountLength (i .statement))
       × ((k : ℕ) → k < length (R .objections) → KindSays (book R) (getD (objectorsOf R) k 0) (getD (targetsOf R) k 0)
-      (kindNumber (getD (i .kinds) k Idle)) (kindLength (getD (i .kinds) k Idle)))
+      (accountNumber (getD (i .objections) k untold)) (accountLength (getD (i .objections) k untold)))
   unfolding bookOf
   reason-says R x l a h i =
       let g : Listed (book R) x = omega (arith, marks-counted R (a .valid)) in (
-        label-says (book R) x g (i .verdict) (i .means),
-        length-says (book R) x g (i .verdict) (i .means),
-        λ k h. kind-says (book R) (getD (objectorsOf R) k 0) (getD (targetsOf R) k 0) (getD (i .kinds) k Idle) (i .of-kind k h),
+        label-says (book R) x g (i .statement) (i .of-statement),
+        length-says (book R) x g (i .statement) (i .of-statement),
+        λ k h. kind-says (book R) (getD (objectorsOf R) k 0) (getD (targetsOf R) k 0) (getD (i .objections) k untold)
+            (i .of-objections .is k h),
       )
 
   -- and so are the codes on a sheet
@@ -362,7 +362,7 @@ module _ (s : List ℕ) where
   unfolding bookOf
   sheet-says R l a is x h =
       let g : Listed (book R) x = omega (arith, marks-counted R (a .valid)) in
-      let (v, m, e) = is .each x g in subst (LabelSays (book R) x) (sym e) (label-says (book R) x g v m)
+      let (told, of, e) = is .each x g in subst (LabelSays (book R) x) (sym e) (label-says (book R) x g told of)
 
   -- "The program issues no numbers": those that a line has, and those of a listing's objections, are statement lines' numbers
   pub line-issues-none : (number : ℕ) (room : List ℕ) (n : ℕ) (after : List ℕ) → TextArgument s number room (Given n) after

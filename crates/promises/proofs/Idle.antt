@@ -10,7 +10,7 @@ use native.Mathlib.Omega.{arith}
 use lib.Dec.{leb→le, leb, ltb→lt, ltb, eqb, T, eqb-refl}
 use lib.ListN.{length, List·getD-eq-default, getD}
 use Rattle.game.specs.Book.{bookOf, any, all}
-use Rattle.game.specs.Label.{Verdict, Means, labelNumber, lengthNumber}
+use Rattle.game.specs.Account.{Account, OfStatement, verdictAccount, accountNumber, accountLength}
 use Rattle.game.specs.Rules.{standsWithin, fallsWithin}
 use Rattle.game.proofs.Search.{all-at, clash}
 use Rattle.game.proofs.Verdict.{verdict, verdict-means, verdictBy}
@@ -42,27 +42,27 @@ told n entry number room e each = record {
 }
 
 -- what the calls may answer, by the computed verdicts
-text-given : (s : List ℕ) (R : Register) → Accepts s R → (number : Verdict → ℕ) (room : List ℕ)
+text-given : (s : List ℕ) (R : Register) → Accepts s R → (number : Account → ℕ) (room : List ℕ)
     → length room ≡ length (R .statements) → TextStatements s number room (Given (length (R .statements)))
-    (upTo (length (R .statements)) (λ x. number (verdict (book R) x)))
+    (upTo (length (R .statements)) (λ x. number (verdictAccount (verdict (book R) x))))
 unfolding bookOf
 text-given s R a number room e = (
   R,
   a,
   (
     refl,
-    told (length (R .statements)) (λ x w. (v : Verdict) × Means (book R) x v × (w ≡ number v))
-        (λ x. number (verdict (book R) x)) room e (λ x h. (
-          verdict (book R) x,
-          verdict-means (book R) x (omega (arith, marks-counted R (a .valid))),
+    told (length (R .statements)) (λ x w. (a : Account) × OfStatement (book R) x a × (w ≡ number a))
+        (λ x. number (verdictAccount (verdict (book R) x))) room e (λ x h. (
+          verdictAccount (verdict (book R) x),
+          (verdict (book R) x, verdict-means (book R) x (omega (arith, marks-counted R (a .valid))), refl),
           refl,
         )),
   ),
 )
 
-lists-given : (marks objectors targets : List ℕ) → Lists marks objectors targets → (number : Verdict → ℕ) (room : List ℕ)
+lists-given : (marks objectors targets : List ℕ) → Lists marks objectors targets → (number : Account → ℕ) (room : List ℕ)
     → length room ≡ length marks → PairsStatements marks objectors targets number room (Given (length marks))
-    (upTo (length marks) (λ x. number (verdict (bookOf marks objectors targets) x)))
+    (upTo (length marks) (λ x. number (verdictAccount (verdict (bookOf marks objectors targets) x))))
 unfolding bookOf
 lists-given marks objectors targets l number room e =
     let B = bookOf marks objectors targets in (
@@ -70,8 +70,9 @@ lists-given marks objectors targets l number room e =
       l,
       (
         refl,
-        told (length marks) (λ x w. (v : Verdict) × Means B x v × (w ≡ number v)) (λ x. number (verdict B x)) room e
-            (λ x h. (verdict B x, verdict-means B x h, refl)),
+        told (length marks) (λ x w. (a : Account) × OfStatement B x a × (w ≡ number a))
+            (λ x. number (verdictAccount (verdict B x))) room e
+            (λ x h. (verdictAccount (verdict B x), (verdict B x, verdict-means B x h, refl), refl)),
       ),
     )
 
@@ -87,7 +88,7 @@ pub lone-text : (a : Answer) (after : List ℕ) → TextLabels lone-bytes (9 ∷
 unfolding lone verdict verdictBy standsWithin fallsWithin any all bookOf placeOf
 lone-text a after p =
     unique-text-labels lone-bytes (9 ∷ []) a (Given 1) after (1 ∷ []) p
-    (text-given lone-bytes lone lone-accepted labelNumber (9 ∷ []) refl)
+    (text-given lone-bytes lone lone-accepted accountNumber (9 ∷ []) refl)
 
 lone-lists-accepted : Lists (0 ∷ []) [] []
 unfolding all
@@ -108,7 +109,7 @@ pub lone-lists : (a : Answer) (after : List ℕ) → PairsLabels (0 ∷ []) [] [
 unfolding verdict verdictBy standsWithin fallsWithin any all bookOf
 lone-lists a after p =
     unique-pairs-labels (0 ∷ []) [] [] (9 ∷ []) a (Given 1) after (1 ∷ []) p
-    (lists-given (0 ∷ []) [] [] lone-lists-accepted labelNumber (9 ∷ []) refl)
+    (lists-given (0 ∷ []) [] [] lone-lists-accepted accountNumber (9 ∷ []) refl)
 
 -- The chain of four, the first unread. One answer is allowed: falls 3, stands 2, falls 1, stands 0.
 pub chain-text-labels : (a : Answer) (after : List ℕ) → TextLabels chain-bytes (9 ∷ 9 ∷ 9 ∷ 9 ∷ []) a after → (a ≡ Given 4)
@@ -116,14 +117,14 @@ pub chain-text-labels : (a : Answer) (after : List ℕ) → TextLabels chain-byt
 unfolding chain verdict verdictBy standsWithin fallsWithin any all bookOf placeOf
 chain-text-labels a after p =
     unique-text-labels chain-bytes (9 ∷ 9 ∷ 9 ∷ 9 ∷ []) a (Given 4) after (2 ∷ 1 ∷ 2 ∷ 1 ∷ []) p
-    (text-given chain-bytes chain chain-accepted labelNumber (9 ∷ 9 ∷ 9 ∷ 9 ∷ []) refl)
+    (text-given chain-bytes chain chain-accepted accountNumber (9 ∷ 9 ∷ 9 ∷ 9 ∷ []) refl)
 
 pub chain-text-lengths : (a : Answer) (after : List ℕ) → TextLengths chain-bytes (9 ∷ 9 ∷ 9 ∷ 9 ∷ []) a after → (a ≡ Given 4)
     × (after ≡ 3 ∷ 2 ∷ 1 ∷ 0 ∷ [])
 unfolding chain verdict verdictBy standsWithin fallsWithin any all bookOf placeOf
 chain-text-lengths a after p =
     unique-text-lengths chain-bytes (9 ∷ 9 ∷ 9 ∷ 9 ∷ []) a (Given 4) after (3 ∷ 2 ∷ 1 ∷ 0 ∷ []) p
-    (text-given chain-bytes chain chain-accepted lengthNumber (9 ∷ 9 ∷ 9 ∷ 9 ∷ []) refl)
+    (text-given chain-bytes chain chain-accepted accountLength (9 ∷ 9 ∷ 9 ∷ 9 ∷ []) refl)
 
 abbrev pub chain-marks : List ℕ
 chain-marks = 1 ∷ 0 ∷ 0 ∷ 0 ∷ []
@@ -159,14 +160,14 @@ pub chain-lists-labels : (a : Answer) (after : List ℕ) → PairsLabels chain-m
 unfolding verdict verdictBy standsWithin fallsWithin any all bookOf
 chain-lists-labels a after p =
     unique-pairs-labels chain-marks chain-objectors chain-targets (9 ∷ 9 ∷ 9 ∷ 9 ∷ []) a (Given 4) after (2 ∷ 1 ∷ 2 ∷ 1 ∷ []) p
-    (lists-given chain-marks chain-objectors chain-targets chain-lists-accepted labelNumber (9 ∷ 9 ∷ 9 ∷ 9 ∷ []) refl)
+    (lists-given chain-marks chain-objectors chain-targets chain-lists-accepted accountNumber (9 ∷ 9 ∷ 9 ∷ 9 ∷ []) refl)
 
 pub chain-lists-lengths : (a : Answer) (after : List ℕ) → PairsLengths chain-marks chain-objectors chain-targets
     (9 ∷ 9 ∷ 9 ∷ 9 ∷ []) a after → (a ≡ Given 4) × (after ≡ 3 ∷ 2 ∷ 1 ∷ 0 ∷ [])
 unfolding verdict verdictBy standsWithin fallsWithin any all bookOf
 chain-lists-lengths a after p =
     unique-pairs-lengths chain-marks chain-objectors chain-targets (9 ∷ 9 ∷ 9 ∷ 9 ∷ []) a (Given 4) after (3 ∷ 2 ∷ 1 ∷ 0 ∷ []) p
-    (lists-given chain-marks chain-objectors chain-targets chain-lists-accepted lengthNumber (9 ∷ 9 ∷ 9 ∷ 9 ∷ []) refl)
+    (lists-given chain-marks chain-objectors chain-targets chain-lists-accepted accountLength (9 ∷ 9 ∷ 9 ∷ 9 ∷ []) refl)
 
 -- So the idle programs break their promises: P is the promise, on that input and that room.
 module _ (P : Answer → List ℕ → Type 0) (one : (a : Answer) (after : List ℕ) → P a after → (a ≡ Given 1) × (after ≡ 1 ∷ [])) where

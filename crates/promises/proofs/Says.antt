@@ -1,12 +1,14 @@
--- What the numbers of a verdict and of a kind say, by the game and in every finish.
+-- What the numbers that are told of a statement and of an objection say, by the game and in every finish.
 use mathlib.Core.Logic.{⊎-elim, inl, inr, _⊎_, _↔_}
 use mathlib.Core.Option.{none, Option, some}
-use mathlib.Core.Path.{refl, _≡_, subst, ap}
+use mathlib.Core.Path.{refl, sym, _≡_, subst, ap}
 use Prim.Native.Nat.{ℕ, suc}
 use native.Mathlib.Omega.{arith}
 use Rattle.game.specs.Book.{Book, Listed}
-use Rattle.game.specs.Label.{falls, Falls, stands, Stands, is-open, Open, Verdict, Means, labelNumber, lengthNumber}
-use Rattle.game.specs.Objection.{kindOf, kindNumber, kindLength, OfKind}
+use Rattle.game.specs.Label.{falls, Falls, stands, Stands, is-open, Open, Verdict, Means}
+use Rattle.game.specs.Account.{Account, OfStatement, OfObjection, accountNumber, accountLength, labelNumber, lengthNumber}
+use Rattle.game.specs.Account.{kindNumber, kindLength}
+use Rattle.game.specs.Objection.{kindOf, OfKind}
 use Rattle.game.specs.declared.Kind.{Kind}
 use Rattle.game.specs.declared.Kind.the-variants.{Idle, Felling, Delaying, Standoff}
 use Rattle.game.proofs.BookDemands.{demand-2, demand-3}
@@ -38,8 +40,8 @@ module _ (B : Book) (x : ℕ) where
   }
 
   module _ (h : Listed B x) where
-    pub label-says : (v : Verdict) → Means B x v → LabelSays B x (labelNumber v)
-    label-says v m =
+    verdict-label : (v : Verdict) → Means B x v → LabelSays B x (labelNumber v)
+    verdict-label v m =
         let l = label v m in
         record {
           falls = l .falls;
@@ -49,28 +51,34 @@ module _ (B : Book) (x : ℕ) where
           stands-finishes = through (l .stands) (demand-3 B .stands-exactly x h);
         }
 
-    pub length-says : (v : Verdict) → Means B x v → LengthSays B x (lengthNumber v)
-    length-says (falls n) m = record {
+    verdict-length : (v : Verdict) → Means B x v → LengthSays B x (lengthNumber v)
+    verdict-length (falls n) m = record {
       falls = λ f. m;
       stands = λ s. absurd (demand-2 B .apart x (n, m .0) s);
       none = λ o. absurd (o .0 (n, m .0));
       falls-finishes = λ f F e. demand-3 B .falls-no-later F e n x h m;
       stands-finishes = λ s. absurd (demand-2 B .apart x (n, m .0) s);
     }
-    length-says (stands n) m = record {
+    verdict-length (stands n) m = record {
       falls = λ f. absurd (demand-2 B .apart x f (n, m .0));
       stands = λ s. m;
       none = λ o. absurd (o .1 (n, m .0));
       falls-finishes = λ f. absurd (demand-2 B .apart x f (n, m .0));
       stands-finishes = λ s F e. demand-3 B .stands-no-later F e n x h m;
     }
-    length-says is-open m = record {
+    verdict-length is-open m = record {
       falls = λ f. absurd (m .0 f);
       stands = λ s. absurd (m .1 s);
       none = λ o. refl;
       falls-finishes = λ f. absurd (m .0 f);
       stands-finishes = λ s. absurd (m .1 s);
     }
+
+    pub label-says : (a : Account) → OfStatement B x a → LabelSays B x (accountNumber a)
+    label-says a (v, m, e) = subst (λ u. LabelSays B x (accountNumber u)) (sym e) (verdict-label v m)
+
+    pub length-says : (a : Account) → OfStatement B x a → LengthSays B x (accountLength a)
+    length-says a (v, m, e) = subst (λ u. LengthSays B x (accountLength u)) (sym e) (verdict-length v m)
 
 -- the kind that the table gives is the one it is said to give
 same-kind : (P : Kind → Type 0) (κ κ′ : Kind) → _≡_ {A = Option Kind} (some κ) (some κ′) → P κ → P κ′
@@ -193,8 +201,8 @@ both (f, g) (h, k) = (λ p. (f (p .0), h (p .1)), λ p. (g (p .0), k (p .1)))
 either : {A B C D : Type 0} → A ↔ C → B ↔ D → (A ⊎ B) ↔ (C ⊎ D)
 either (f, g) (h, k) = (⊎-elim (λ a. inl (f a)) (λ b. inr (h b)), ⊎-elim (λ c. inl (g c)) (λ d. inr (k d)))
 
-pub kind-says : (B : Book) (y x : ℕ) (κ : Kind) → OfKind B y x κ → KindSays B y x (kindNumber κ) (kindLength κ)
-kind-says B y x κ o =
+of-kind-says : (B : Book) (y x : ℕ) (κ : Kind) → OfKind B y x κ → KindSays B y x (kindNumber κ) (kindLength κ)
+of-kind-says B y x κ o =
     let a = label B x (o .target) (o .target-means) in
     let b = label B y (o .objector) (o .objector-means) in
     let r = rows (o .target) (o .objector) κ (o .is) in
@@ -209,3 +217,6 @@ kind-says B y x κ o =
       delaying-length = l .delaying;
       no-length = l .none;
     }
+
+pub kind-says : (B : Book) (y x : ℕ) (a : Account) → OfObjection B y x a → KindSays B y x (accountNumber a) (accountLength a)
+kind-says B y x a (κ, o, e) = subst (λ u. KindSays B y x (accountNumber u) (accountLength u)) (sym e) (of-kind-says B y x κ o)

@@ -1,26 +1,20 @@
 -- The promise of kinds on lists leaves one answer and one content of the rooms: `unique-pairs-kinds`.
 use mathlib.Core.List.{List}
 use mathlib.Core.Logic.{inl, inr}
-use mathlib.Core.Path.{ap, sym, _≡_, _∙_}
+use mathlib.Core.Path.{sym, _≡_, _∙_}
 use Prim.Native.Nat.{ℕ}
 use native.Mathlib.Omega.{arith}
 use lib.ListN.{getD}
-use Rattle.game.specs.Book.{Book, bookOf}
-use Rattle.game.specs.Objection.{OfKind}
-use Rattle.game.specs.declared.Kind.{Kind}
-use Rattle.game.proofs.Objection.{kind-unique}
-use Rattle.answer.specs.Answer.{Short, Begins}
+use Rattle.game.specs.Book.{bookOf}
+use Rattle.game.specs.Account.{Account, OfObjection}
+use Rattle.game.proofs.Account.{objection-once, number-once}
+use Rattle.answer.specs.Answer.{Short}
 use Rattle.answer.specs.declared.Answer.{Answer}
 use Rattle.answer.proofs.Rooms.{begins-unique}
 use Rattle.answer.proofs.Promises.{short-once}
 use Rattle.answer.proofs.Inputs.{on-unique}
 use Rattle.promises.proofs.OnLists.{lists-apart}
-use Rattle.promises.specs.KindCalls.{PairsKinds, KindsIn, KindsShort}
-
--- an objection's number is one
-objection-number : (B : Book) (number : Kind → ℕ) (y x e e′ : ℕ) → (κ : Kind) × OfKind B y x κ × (e ≡ number κ) → (κ : Kind)
-    × OfKind B y x κ × (e′ ≡ number κ) → e ≡ e′
-objection-number B number y x e e′ (κ, m, p) (κ′, n, q) = p ∙ ap number (kind-unique B y x κ κ′ m n) ∙ sym q
+use Rattle.promises.specs.KindCalls.{PairsKinds, Objections, KindsIn, KindsShort}
 
 module _ (marks objectors targets : List ℕ) where
   pub unique-pairs-kinds : (rooms : List ℕ × List ℕ) (a a′ : Answer) (after after′ : List ℕ × List ℕ)
@@ -36,15 +30,14 @@ module _ (marks objectors targets : List ℕ) where
       room-left n after g (inl h) = omega (arith, g .0, g .1 .fits)
       room-left n after g (inr h) = omega (arith, g .0, g .2 .fits)
 
-      entry : (Kind → ℕ) → ℕ → ℕ → Type 0
-      entry number k e =
-          (κ : Kind) × OfKind (bookOf marks objectors targets) (getD objectors k 0) (getD targets k 0) κ × (e ≡ number κ)
-
-      one-room : (number : Kind → ℕ) (n : ℕ) (room after after′ : List ℕ) → Begins n (entry number) room after
-          → Begins n (entry number) room after′ → after ≡ after′
+      one-room : (number : Account → ℕ) (n : ℕ) (room after after′ : List ℕ)
+          → Objections marks objectors targets number n room after → Objections marks objectors targets number n room after′
+          → after ≡ after′
       one-room number n room after after′ b b′ =
-          begins-unique (entry number) room n after after′ (λ k i j h. objection-number (bookOf marks objectors targets) number
-          (getD objectors k 0) (getD targets k 0) i j) b b′
+          let B = bookOf marks objectors targets in
+          begins-unique (λ k e. (a : Account) × OfObjection B (getD objectors k 0) (getD targets k 0) a × (e ≡ number a)) room n after
+          after′ (λ k i j h. number-once (OfObjection B (getD objectors k 0) (getD targets k 0))
+          (objection-once B (getD objectors k 0) (getD targets k 0)) number i j) b b′
 
       same : (n n′ : ℕ) (after after′ : List ℕ × List ℕ) → KindsIn marks objectors targets rooms n after
           → KindsIn marks objectors targets rooms n′ after′ → (n ≡ n′) × (after ≡ after′)

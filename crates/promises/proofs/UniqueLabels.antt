@@ -6,8 +6,8 @@ use Prim.Native.Nat.{ℕ, _<_}
 use native.Mathlib.Omega.{arith}
 use lib.ListN.{length}
 use Rattle.game.specs.Book.{Book, bookOf}
-use Rattle.game.specs.Label.{Verdict, Means}
-use Rattle.game.proofs.Verdict.{number-unique}
+use Rattle.game.specs.Account.{Account, OfStatement}
+use Rattle.game.proofs.Account.{statement-once, number-once}
 use Rattle.register.specs.Register.{book}
 use Rattle.answer.specs.declared.Refusal.{Refusal}
 use Rattle.answer.specs.Answer.{Short}
@@ -20,14 +20,14 @@ use Rattle.promises.proofs.OnText.{text-apart}
 use Rattle.promises.specs.LabelCalls.{StatementsIn, PairsStatements, PairsLabels, PairsLengths, MovesLabels, MovesLengths}
 use Rattle.promises.specs.LabelCalls.{TextStatements, TextLabels, TextLengths}
 
-module _ (B : Book) (number : Verdict → ℕ) (statements : ℕ) (room : List ℕ) where
+module _ (B : Book) (number : Account → ℕ) (statements : ℕ) (room : List ℕ) where
   statements-once : (n n′ : ℕ) (after after′ : List ℕ) → StatementsIn B number statements room n after
       → StatementsIn B number statements room n′ after′ → (n ≡ n′) × (after ≡ after′)
   statements-once n n′ after after′ (e, b) (e′, b′) =
       let q : n′ ≡ n = e′ ∙ sym e in (
         sym q,
-        begins-unique (λ x e. (v : Verdict) × Means B x v × (e ≡ number v)) room n after after′
-            (λ k i j h. number-unique B number k i j) b (rw q at b′),
+        begins-unique (λ x e. (a : Account) × OfStatement B x a × (e ≡ number a)) room n after after′
+            (λ k i j h. number-once (OfStatement B k) (statement-once B k) number i j) b (rw q at b′),
       )
 
   -- where they are written, the room is not short
@@ -36,7 +36,7 @@ module _ (B : Book) (number : Verdict → ℕ) (statements : ℕ) (room : List �
   statements-fit r n after (h, e) (c, b) = omega (arith, h, c, b .fits)
 
 module _ (marks objectors targets : List ℕ) where
-  pairs-statements-unique : (number : Verdict → ℕ) (room : List ℕ) (a a′ : Answer) (after after′ : List ℕ)
+  pairs-statements-unique : (number : Account → ℕ) (room : List ℕ) (a a′ : Answer) (after after′ : List ℕ)
       → PairsStatements marks objectors targets number room a after
       → PairsStatements marks objectors targets number room a′ after′ → (a ≡ a′) × (after ≡ after′)
   pairs-statements-unique number room =
@@ -64,7 +64,7 @@ pub unique-moves-lengths : (marks from to room : List ℕ) (a a′ : Answer) (af
 unique-moves-lengths marks from to = unique-pairs-lengths marks to from
 
 module _ (s : List ℕ) where
-  text-statements-unique : (number : Verdict → ℕ) (room : List ℕ) (a a′ : Answer) (after after′ : List ℕ)
+  text-statements-unique : (number : Account → ℕ) (room : List ℕ) (a a′ : Answer) (after after′ : List ℕ)
       → TextStatements s number room a after → TextStatements s number room a′ after′ → (a ≡ a′) × (after ≡ after′)
   text-statements-unique number room =
       on-unique (text-apart s) (λ R. Short (length room < length (R .statements)))

@@ -5,8 +5,7 @@ use mathlib.Core.Path.{_≡_}
 use Prim.Native.Nat.{ℕ, _<_}
 use lib.ListN.{length, getD}
 use Rattle.game.specs.Book.{bookOf}
-use Rattle.game.specs.Objection.{OfKind, kindNumber, kindLength}
-use Rattle.game.specs.declared.Kind.{Kind}
+use Rattle.game.specs.Account.{Account, OfObjection, accountNumber, accountLength}
 use Rattle.answer.specs.Answer.{Begins, Short}
 use Rattle.answer.specs.declared.Answer.{Answer}
 use Rattle.promises.specs.OnLists.{OnLists}
@@ -16,17 +15,16 @@ abbrev pub KindsShort : (objectors : List ℕ) → List ℕ × List ℕ → Type
 KindsShort objectors rooms = (length (rooms .0) < length objectors) ⊎ (length (rooms .1) < length objectors)
 
 module _ (marks objectors targets : List ℕ) where
-  -- a number for each objection, in the order of the lists
-  abbrev pub Objections : (Kind → ℕ) → ℕ → List ℕ → List ℕ → Type 0
+  -- a number of what is told of each objection, in the order of the lists
+  abbrev pub Objections : (Account → ℕ) → ℕ → List ℕ → List ℕ → Type 0
   Objections number n room after =
-      Begins n
-      (λ k e. (κ : Kind) × OfKind (bookOf marks objectors targets) (getD objectors k 0) (getD targets k 0) κ × (e ≡ number κ))
-      room after
+      Begins n (λ k e. (a : Account)
+      × OfObjection (bookOf marks objectors targets) (getD objectors k 0) (getD targets k 0) a × (e ≡ number a)) room after
 
   -- kinds and lengths, each in its own room
   abbrev pub KindsIn : List ℕ × List ℕ → ℕ → List ℕ × List ℕ → Type 0
   KindsIn rooms n after =
-      (n ≡ length objectors) × Objections kindNumber n (rooms .0) (after .0) × Objections kindLength n (rooms .1) (after .1)
+      (n ≡ length objectors) × Objections accountNumber n (rooms .0) (after .0) × Objections accountLength n (rooms .1) (after .1)
 
   abbrev pub PairsKinds : List ℕ × List ℕ → Answer → List ℕ × List ℕ → Type 0
   PairsKinds rooms = OnLists marks objectors targets (Short (KindsShort objectors rooms)) (KindsIn rooms) rooms

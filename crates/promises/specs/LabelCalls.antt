@@ -5,29 +5,29 @@ use mathlib.Core.Path.{_≡_}
 use Prim.Native.Nat.{ℕ, _<_}
 use lib.ListN.{length}
 use Rattle.game.specs.Book.{Book, bookOf}
-use Rattle.game.specs.Label.{Verdict, Means, labelNumber, lengthNumber}
+use Rattle.game.specs.Account.{Account, OfStatement, accountNumber, accountLength}
 use Rattle.answer.specs.Answer.{Short, Begins}
 use Rattle.answer.specs.declared.Answer.{Answer}
 use Rattle.register.specs.Register.{book}
 use Rattle.promises.specs.OnText.{OnText}
 use Rattle.promises.specs.OnLists.{OnLists}
 
--- a number for each of so many statements, in listed order
-abbrev pub StatementsIn : Book → (Verdict → ℕ) → (statements : ℕ) → List ℕ → ℕ → List ℕ → Type 0
+-- a number of what is told of each of so many statements, in listed order
+abbrev pub StatementsIn : Book → (Account → ℕ) → (statements : ℕ) → List ℕ → ℕ → List ℕ → Type 0
 StatementsIn B number statements room n after =
-    (n ≡ statements) × Begins n (λ x e. (v : Verdict) × Means B x v × (e ≡ number v)) room after
+    (n ≡ statements) × Begins n (λ x e. (a : Account) × OfStatement B x a × (e ≡ number a)) room after
 
 module _ (marks objectors targets : List ℕ) where
-  abbrev pub PairsStatements : (Verdict → ℕ) → List ℕ → Answer → List ℕ → Type 0
+  abbrev pub PairsStatements : (Account → ℕ) → List ℕ → Answer → List ℕ → Type 0
   PairsStatements number room =
       OnLists marks objectors targets (Short (length room < length marks))
       (StatementsIn (bookOf marks objectors targets) number (length marks) room) room
 
   abbrev pub PairsLabels : List ℕ → Answer → List ℕ → Type 0
-  PairsLabels = PairsStatements labelNumber
+  PairsLabels = PairsStatements accountNumber
 
   abbrev pub PairsLengths : List ℕ → Answer → List ℕ → Type 0
-  PairsLengths = PairsStatements lengthNumber
+  PairsLengths = PairsStatements accountLength
 
 -- "A caller may hand over moves instead, which is the same with the two lists exchanged, and gets the same labels and
 -- lengths." A move goes from the target to the objector.
@@ -38,13 +38,13 @@ abbrev pub MovesLengths : (marks from to : List ℕ) → List ℕ → Answer →
 MovesLengths marks from to = PairsLengths marks to from
 
 module _ (text : List ℕ) where
-  abbrev pub TextStatements : (Verdict → ℕ) → List ℕ → Answer → List ℕ → Type 0
+  abbrev pub TextStatements : (Account → ℕ) → List ℕ → Answer → List ℕ → Type 0
   TextStatements number room =
       OnText text (λ R. Short (length room < length (R .statements)))
       (λ R. StatementsIn (book R) number (length (R .statements)) room) room
 
   abbrev pub TextLabels : List ℕ → Answer → List ℕ → Type 0
-  TextLabels = TextStatements labelNumber
+  TextLabels = TextStatements accountNumber
 
   abbrev pub TextLengths : List ℕ → Answer → List ℕ → Type 0
-  TextLengths = TextStatements lengthNumber
+  TextLengths = TextStatements accountLength

@@ -10,9 +10,10 @@ use native.Mathlib.Omega.{arith}
 use lib.Dec.{eqb, T}
 use lib.ListN.{getD, length, length-map, length-append}
 use Rattle.game.specs.Book.{Listed, bookOf}
-use Rattle.game.specs.Label.{Verdict, Means, is-open}
+use Rattle.game.specs.Label.{Verdict, Means}
+use Rattle.game.specs.Account.{untold}
 use Rattle.game.specs.Reason.{OfReason, InReason, OnlyReason}
-use Rattle.game.proofs.Verdict.{means-unique}
+use Rattle.game.proofs.Account.{statement-once}
 use Rattle.game.proofs.Reason.{of-reaches, reaches-exactly, within-exactly, reaching, belonging, reaches-listed, reason-enough}
 use Rattle.game.proofs.HandedBook.{objects-entry}
 use Rattle.register.specs.Lines.{markNumber}
@@ -309,14 +310,15 @@ module _ (s : List ℕ) (R : Register) (accepts : Accepts s R) (x : ℕ) (l : x 
 
   -- so their two listings have the same line for it
   pub alone-same-line : (t t′ : List ℕ) (p : IsListing R t) (q : IsListing S t′) → (x′ : ℕ) × (x′ < length (S .statements))
-      × (statementRow (getD (numbers S) x′ 0) (getD (q .verdicts) x′ is-open)
-      ≡ statementRow (getD (numbers R) x 0) (getD (p .verdicts) x is-open))
+      × (statementRow (getD (numbers S) x′ 0) (getD (q .statements) x′ untold)
+      ≡ statementRow (getD (numbers R) x 0) (getD (p .statements) x untold))
   alone-same-line t t′ p q =
       let (x′, h, e, same) = alone-same in
       let i : x′ < length (S .statements) = omega (arith, numbers-counted S) in
-      let v : Verdict = getD (p .verdicts) x is-open in (
+      let (v, m, is) = p .of-statement x l in (
         x′,
         i,
         ap₂ statementRow e
-            (means-unique (book S) x′ (getD (q .verdicts) x′ is-open) v (q .means x′ i) (same v .0 (p .means x l))),
+            (statement-once (book S) x′ (getD (q .statements) x′ untold) (getD (p .statements) x untold) (q .of-statement x′ i)
+            (v, same v .0 m, is)),
       )

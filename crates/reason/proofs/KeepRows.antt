@@ -5,7 +5,7 @@ use mathlib.Core.Path.{sym, ap, _≡_, _∙_}
 use Prim.Native.Nat.{ℕ, suc, _≤_}
 use native.Mathlib.Omega.{arith}
 use lib.ListN.{length, length-append, getD}
-use Rattle.game.specs.declared.Kind.{Kind}
+use Rattle.game.specs.Account.{Account}
 use Rattle.register.specs.declared.ObjectionLine.{ObjectionLine}
 use Rattle.register.specs.Texts.{rowsTo}
 use Rattle.listing.specs.Rows.{objectionRow}
@@ -15,52 +15,52 @@ use Rattle.game.proofs.UpTo.{upTo}
 use Rattle.reason.specs.Alone.{keep}
 
 -- fewer rows are no longer
-pub kept-shorter : (p : ℕ → Bool) (O : List ObjectionLine) (κs : List Kind)
-    → length (objectionRows (keep p O) (keep p κs)) ≤ length (objectionRows O κs)
+pub kept-shorter : (p : ℕ → Bool) (O : List ObjectionLine) (told : List Account)
+    → length (objectionRows (keep p O) (keep p told)) ≤ length (objectionRows O told)
 unfolding keep objectionRows
-kept-shorter p [] κs = omega arith
+kept-shorter p [] told = omega arith
 kept-shorter p (o ∷ O) [] = go (p 0) (keep (λ k. p (suc k)) O)
   where
     go : (b : Bool) (u : List ObjectionLine) → length (objectionRows (cond b (o ∷ u) u) []) ≤ 0
     go true u = omega arith
     go false [] = omega arith
     go false (v ∷ u) = omega arith
-kept-shorter p (o ∷ O) (κ ∷ κs) = go (p 0) (kept-shorter (λ k. p (suc k)) O κs)
+kept-shorter p (o ∷ O) (a ∷ told) = go (p 0) (kept-shorter (λ k. p (suc k)) O told)
   where
     row : List ℕ
-    row = objectionRow (o .objector) (o .target) κ
+    row = objectionRow (o .objector) (o .target) a
 
     go : (b : Bool)
-        → length (objectionRows (keep (λ k. p (suc k)) O) (keep (λ k. p (suc k)) κs)) ≤ length (objectionRows O κs)
+        → length (objectionRows (keep (λ k. p (suc k)) O) (keep (λ k. p (suc k)) told)) ≤ length (objectionRows O told)
         → length (objectionRows (cond b (o ∷ keep (λ k. p (suc k)) O) (keep (λ k. p (suc k)) O))
-        (cond b (κ ∷ keep (λ k. p (suc k)) κs) (keep (λ k. p (suc k)) κs))) ≤ length (row ++ objectionRows O κs)
+        (cond b (a ∷ keep (λ k. p (suc k)) told) (keep (λ k. p (suc k)) told))) ≤ length (row ++ objectionRows O told)
     go true h =
         omega (
           arith,
-          length-append row (objectionRows (keep (λ k. p (suc k)) O) (keep (λ k. p (suc k)) κs)),
-          length-append row (objectionRows O κs),
+          length-append row (objectionRows (keep (λ k. p (suc k)) O) (keep (λ k. p (suc k)) told)),
+          length-append row (objectionRows O told),
         )
-    go false h = omega (arith, length-append row (objectionRows O κs))
+    go false h = omega (arith, length-append row (objectionRows O told))
 
 -- the row of the objection k, if it passes the test
-abbrev pub rowIf : (p : ℕ → Bool) (O : List ObjectionLine) (κ : ℕ → Kind) → ℕ → List ℕ
-rowIf p O κ k =
+abbrev pub rowIf : (p : ℕ → Bool) (O : List ObjectionLine) (told : ℕ → Account) → ℕ → List ℕ
+rowIf p O told k =
     cond (p k) (objectionRow (getD (map (λ (o : ObjectionLine). o .objector) O) k 0)
-    (getD (map (λ (o : ObjectionLine). o .target) O) k 0) (κ k)) []
+    (getD (map (λ (o : ObjectionLine). o .target) O) k 0) (told k)) []
 
-pub keep-rows : (p : ℕ → Bool) (O : List ObjectionLine) (κ : ℕ → Kind)
-    → objectionRows (keep p O) (keep p (upTo (length O) κ)) ≡ rowsTo (length O) (rowIf p O κ)
+pub keep-rows : (p : ℕ → Bool) (O : List ObjectionLine) (told : ℕ → Account)
+    → objectionRows (keep p O) (keep p (upTo (length O) told)) ≡ rowsTo (length O) (rowIf p O told)
 unfolding keep objectionRows
-keep-rows p [] κ = sym (no-rows (rowIf p [] κ))
-keep-rows p (o ∷ O) κ =
-    go (keep-rows (λ k. p (suc k)) O (λ k. κ (suc k))) (p 0) ∙ sym (row-first (rowIf p (o ∷ O) κ) (length O))
+keep-rows p [] told = sym (no-rows (rowIf p [] told))
+keep-rows p (o ∷ O) told =
+    go (keep-rows (λ k. p (suc k)) O (λ k. told (suc k))) (p 0) ∙ sym (row-first (rowIf p (o ∷ O) told) (length O))
   where
-    go : objectionRows (keep (λ k. p (suc k)) O) (keep (λ k. p (suc k)) (upTo (length O) (λ k. κ (suc k)))) ≡ rowsTo (length O)
-        (rowIf (λ k. p (suc k)) O (λ k. κ (suc k))) → (b : Bool)
+    go : objectionRows (keep (λ k. p (suc k)) O) (keep (λ k. p (suc k)) (upTo (length O) (λ k. told (suc k)))) ≡ rowsTo (length O)
+        (rowIf (λ k. p (suc k)) O (λ k. told (suc k))) → (b : Bool)
         → objectionRows (cond b (o ∷ keep (λ k. p (suc k)) O) (keep (λ k. p (suc k)) O))
-        (cond b (κ 0 ∷ keep (λ k. p (suc k)) (upTo (length O) (λ k. κ (suc k))))
-        (keep (λ k. p (suc k)) (upTo (length O) (λ k. κ (suc k)))))
-        ≡ cond b (objectionRow (o .objector) (o .target) (κ 0)) [] ++ rowsTo (length O)
-        (rowIf (λ k. p (suc k)) O (λ k. κ (suc k)))
-    go rest true = ap (λ u. objectionRow (o .objector) (o .target) (κ 0) ++ u) rest
+        (cond b (told 0 ∷ keep (λ k. p (suc k)) (upTo (length O) (λ k. told (suc k))))
+        (keep (λ k. p (suc k)) (upTo (length O) (λ k. told (suc k)))))
+        ≡ cond b (objectionRow (o .objector) (o .target) (told 0)) [] ++ rowsTo (length O)
+        (rowIf (λ k. p (suc k)) O (λ k. told (suc k)))
+    go rest true = ap (λ u. objectionRow (o .objector) (o .target) (told 0) ++ u) rest
     go rest false = rest

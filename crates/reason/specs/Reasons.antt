@@ -3,25 +3,20 @@
 use mathlib.Core.Bool.{Bool}
 use mathlib.Core.List.{List, _++_}
 use mathlib.Core.Path.{_≡_}
-use Prim.Native.Nat.{ℕ, _<_}
-use lib.ListN.{length, getD}
-use Rattle.game.specs.Label.{Verdict, Means}
-use Rattle.game.specs.Objection.{OfKind}
-use Rattle.game.specs.declared.Kind.{Kind}
-use Rattle.game.specs.declared.Kind.the-variants.{Idle}
-use Rattle.register.specs.Register.{Register, book, objectorsOf, targetsOf, numbers}
+use Prim.Native.Nat.{ℕ}
+use lib.ListN.{getD}
+use Rattle.game.specs.Account.{Account, OfStatement}
+use Rattle.register.specs.Register.{Register, book, numbers}
 use Rattle.reason.specs.Alone.{Chooses, keep}
 use Rattle.listing.specs.Rows.{statementRow}
-use Rattle.listing.specs.Listing.{objectionRows}
+use Rattle.listing.specs.Listing.{ObjectionsTold, objectionRows}
 
 -- l is the reason of the statement at the place x, as it is written
 pub record IsReason (R : Register) (x : ℕ) (l : List ℕ) : Type 0 where
-  pub verdict : Verdict
-  pub means : Means (book R) x verdict
-  pub kinds : List Kind
-  pub kind-each : length kinds ≡ length (R .objections)
-  pub of-kind : (k : ℕ) → k < length (R .objections)
-      → OfKind (book R) (getD (objectorsOf R) k 0) (getD (targetsOf R) k 0) (getD kinds k Idle)
+  pub statement : Account
+  pub objections : List Account
+  pub of-statement : OfStatement (book R) x statement
+  pub of-objections : ObjectionsTold R objections
   pub inside : ℕ → Bool
   pub exactly : Chooses R x inside
-  pub is : l ≡ statementRow (getD (numbers R) x 0) verdict ++ objectionRows (keep inside (R .objections)) (keep inside kinds)
+  pub is : l ≡ statementRow (getD (numbers R) x 0) statement ++ objectionRows (keep inside (R .objections)) (keep inside objections)

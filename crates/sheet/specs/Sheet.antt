@@ -6,7 +6,7 @@ use Prim.Native.Nat.{ℕ, _+_, _/_, _%_, _^_, _≤_, _<_}
 use lib.Dec.{eqb}
 use lib.ListN.{getD, length}
 use Rattle.game.specs.Book.{count, Book, Listed}
-use Rattle.game.specs.Label.{Verdict, Means, labelNumber}
+use Rattle.game.specs.Account.{Account, OfStatement, accountNumber}
 
 -- "Two bits for each statement in listed order, four to a byte, the first in the lowest bits": the code at a place of a byte, and
 -- the code of the statement x.
@@ -32,7 +32,7 @@ total sheet n code = count n (λ x. eqb (codeAt sheet x) code)
 pub record IsSheet (B : Book) (sheet : List ℕ) : Type 0 where
   pub bytes : (k : ℕ) → getD sheet k 0 < 256
   pub size : length sheet ≡ bytesFor (B .size)
-  pub each : (x : ℕ) → Listed B x → (v : Verdict) × Means B x v × (codeAt sheet x ≡ labelNumber v)
+  pub each : (x : ℕ) → Listed B x → (a : Account) × OfStatement B x a × (codeAt sheet x ≡ accountNumber a)
   pub spare : (x : ℕ) → B .size ≤ x → codeAt sheet x ≡ 0
 
 -- A sheet of n statements, of whatever register, with the totals beside it: "no 3, the register's size, no spare bit set and its

@@ -1,11 +1,12 @@
 -- Whole sheets in the code: when one is sound, by its counts, and that a sheet made from the labels of a book is the book's.
 use mathlib.Core.Bool.{Bool, true, false}
 use mathlib.Core.List.{List}
-use mathlib.Core.Path.{sym, ap, _≡_, _∙_}
+use mathlib.Core.Path.{refl, sym, ap, _≡_, _∙_}
 use Prim.Native.Nat.{ℕ, _<_}
 use native.Mathlib.Omega.{arith}
 use lib.ListN.{getD, length}
 use Rattle.game.specs.Book.{Book}
+use Rattle.game.specs.Account.{verdictAccount}
 use Rattle.game.specs.Find.{Decides}
 use Rattle.answer.specs.Answer.{Begins}
 use Rattle.sheet.specs.Sheet.{SoundSheet, bytesFor, codes, total, IsSheet}
@@ -46,6 +47,6 @@ filled-sheet B n labels sheet totals after of f = record {
   bytes = f .bytes;
   size = f .size ∙ ap bytesFor (sym (of .size));
   each = λ x h. let (v, m, e) = of .each x (omega (arith, of .size)) in
-      (v, m, f .each x (omega (arith, of .size)) ∙ e);
+      (verdictAccount v, (v, m, refl), f .each x (omega (arith, of .size)) ∙ e);
   spare = λ x h. f .spare x (omega (arith, of .size));
 }

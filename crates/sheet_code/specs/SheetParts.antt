@@ -6,7 +6,8 @@ use Prim.Native.Nat.{ℕ, _-_, _*_, _%_, _^_, _≤_, _<_, _/_}
 use lib.Bits.{bitOr, bitAnd}
 use lib.ListN.{length, getD}
 use Rattle.game.specs.Book.{Book}
-use Rattle.game.specs.Label.{Verdict, Means, labelNumber}
+use Rattle.game.specs.Label.{Verdict, Means}
+use Rattle.game.specs.Account.{labelNumber}
 use Rattle.answer.specs.Answer.{Begins}
 use Rattle.sheet.specs.Sheet.{codeAt, codes, total, bytesFor}
 

@@ -1,9 +1,9 @@
 -- `write_kinds`: the invariant is that both rooms begin with the objections passed.
-use mathlib.Core.Path.{_≡_}
+use mathlib.Core.Path.{refl, _≡_}
 use Prim.Native.Nat.{_≤_, _-_}
 use native.Mathlib.Omega.{arith}
 use lib.ListN.{length}
-use Rattle.game.specs.Objection.{kindNumber, kindLength}
+use Rattle.game.specs.Account.{accountNumber, accountLength}
 use Rattle.promises.specs.KindCalls.{Objections}
 use Rattle.answer.proofs.Rooms.{begins-none, begins-more}
 use borrow.Author.Needs.{needs}
@@ -12,8 +12,8 @@ use Rattle.call_kinds.proofs.write_kinds.Tie as tie
 
 abbrev Inv-loop : tie.InvT-loop
 Inv-loop marks objectors targets labels turns kinds₀ lengths₀ k₀ kinds lengths k =
-    (k ≤ length objectors) × Objections marks objectors targets kindNumber k kinds₀ kinds
-    × Objections marks objectors targets kindLength k lengths₀ lengths
+    (k ≤ length objectors) × Objections marks objectors targets accountNumber k kinds₀ kinds
+    × Objections marks objectors targets accountLength k lengths₀ lengths
 
 abbrev μ-loop : tie.MeasureT-loop
 μ-loop marks objectors targets labels turns kinds₀ lengths₀ k₀ kinds lengths k =
@@ -71,9 +71,9 @@ loop-again c =
     let kind-at = c .before .before .kind-at in (
       omega arith,
       begins-more _ _ _ _ _ (loop .inv .1) (omega (arith, pre .1 .1 .0 .0))
-          (kind-at .result, kind-at .ensures, c .before .kind-number .ensures),
+          (_, (kind-at .result, kind-at .ensures, refl), c .before .kind-number .ensures),
       begins-more _ _ _ _ _ (loop .inv .2) (omega (arith, pre .1 .1 .0 .1))
-          (kind-at .result, kind-at .ensures, c .kind-length .ensures),
+          (_, (kind-at .result, kind-at .ensures, refl), c .kind-length .ensures),
     )
 
 same-length : tie.Need-same-length Inv-loop μ-loop

@@ -2,7 +2,7 @@
 use mathlib.Core.Logic.{inl}
 use mathlib.Core.Path.{refl}
 use native.Mathlib.Omega.{arith}
-use Rattle.game.specs.Label.{labelNumber}
+use Rattle.game.specs.Account.{accountNumber}
 use Rattle.register_solve.proofs.SolvedRooms.{few-listed}
 use Rattle.call_labels_text.proofs.TextSolved.{room-short, labels-given}
 use borrow.Author.Needs.{needs}
@@ -43,7 +43,7 @@ returns c =
     let reading2 = c .before .before .reading2 in
     room-short (args .text .now) (solve-text .last .1 .0) (solve-text .last .1 .1 .0) (solve-text .last .1 .1 .1 .0)
     (solve-text .last .1 .1 .1 .1 .0) (solve-text .last .1 .1 .1 .1 .1 .0) (solve-text .last .1 .1 .1 .1 .1 .1 .0)
-    (reading2 .given .0 .0) (reading2 .given .0 .1 .0) (rw (reading2 .given .1) at (solve-text .ensures)) labelNumber (args .room .now)
+    (reading2 .given .0 .0) (reading2 .given .0 .1 .0) (rw (reading2 .given .1) at (solve-text .ensures)) accountNumber (args .room .now)
     (c .if1 .taken)
 
 slice-aggregate-copy-labels : tie.Need-slice-aggregate-copy-labels

@@ -2,7 +2,7 @@
 use mathlib.Core.Logic.{inl}
 use mathlib.Core.Path.{refl}
 use native.Mathlib.Omega.{arith}
-use Rattle.game.specs.Label.{lengthNumber}
+use Rattle.game.specs.Account.{accountLength}
 use Rattle.register_solve.proofs.SolvedRooms.{few-listed}
 use Rattle.call_labels_text.proofs.TextSolved.{room-short, lengths-given}
 use borrow.Author.Needs.{needs}
@@ -43,7 +43,7 @@ returns c =
     let reading2 = c .before .before .reading2 in
     room-short (args .text .now) (solve-text .last .1 .0) (solve-text .last .1 .1 .0) (solve-text .last .1 .1 .1 .0)
     (solve-text .last .1 .1 .1 .1 .0) (solve-text .last .1 .1 .1 .1 .1 .0) (solve-text .last .1 .1 .1 .1 .1 .1 .0)
-    (reading2 .given .0 .0) (reading2 .given .0 .1 .0) (rw (reading2 .given .1) at (solve-text .ensures)) lengthNumber (args .room .now)
+    (reading2 .given .0 .0) (reading2 .given .0 .1 .0) (rw (reading2 .given .1) at (solve-text .ensures)) accountLength (args .room .now)
     (c .if1 .taken)
 
 slice-aggregate-copy-lengths : tie.Need-slice-aggregate-copy-lengths

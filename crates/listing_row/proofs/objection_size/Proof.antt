@@ -1,5 +1,6 @@
 -- `objection_size` is the size of a row: three fields and three bytes more.
 use native.Mathlib.Omega.{arith}
+use Rattle.game.specs.Account.{kindAccount}
 use Rattle.register.proofs.Number.{number-small}
 use Rattle.listing.proofs.Rows.{objection-length, kind-small}
 use borrow.Author.Needs.{needs}
@@ -41,7 +42,7 @@ add-result-5 c =
 returns : tie.Need-returns
 returns c =
     let args = c .before .before .before .args in
-    omega (arith, objection-length (args .objector) (args .target) (args .kind))
+    omega (arith, objection-length (args .objector) (args .target) (kindAccount (args .kind)))
 
 pub objection-size-spec : {M : Type 1} → statement M
 objection-size-spec =

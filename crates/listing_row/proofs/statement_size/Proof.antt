@@ -1,6 +1,6 @@
 -- `statement_size` is the size of a row: two fields and two bytes more.
 use native.Mathlib.Omega.{arith}
-use Rattle.listing_row.specs.Said.{said}
+use Rattle.listing_row.specs.Said.{said, accountSaid}
 use Rattle.register.proofs.Number.{number-small}
 use Rattle.listing.proofs.Rows.{statement-length, verdict-small}
 use borrow.Author.Needs.{needs}
@@ -29,7 +29,7 @@ add-result-3 c =
 returns : tie.Need-returns
 returns c =
     let args = c .before .before .args in
-    omega (arith, statement-length (args .number) (said (args .label) (args .turns)))
+    omega (arith, statement-length (args .number) (accountSaid (args .label) (args .turns)))
 
 pub statement-size-spec : {M : Type 1} → statement M
 statement-size-spec =

@@ -1,5 +1,8 @@
 // The listing of a register, written into a lent room: a header, a row for each statement with its label and length, and a
 // row for each objection with its kind and length. Reading the register, finding the labels and writing a row are left to others.
+//
+// The size is found by a pass of its own, so that a room that is too short is found before anything is written; a room of
+// 131,072 bytes holds every listing, and who has one needs no such pass. Both are linear: a kind is looked up in constant time.
 use listing_row::entry_size;
 use listing_row::put_entry;
 ghost use mathlib.Core.List.{List, _++_};

@@ -1,7 +1,10 @@
 // Which objections are in the reason for a statement, in a register that is labelled: from each statement that the reason comes
-// to it goes on to the objectors. Each statement is looked at once, and with it the objections against it, so the time is linear
-// in statements and objections. Labels are left to `label_solve`, kinds to `reason_belongs`, what is written of a reason to the
+// to it goes on to the objectors. Labels are left to `label_solve`, kinds to `reason_belongs`, what is written of a reason to the
 // crates above.
+//
+// Each statement is looked at once, and with it the objections against it, so the time is linear in statements and objections. A
+// tick for each statement and, in the end, one for each objection: counting and writing then go by the same ticks. The rooms of
+// the walk have 1,024 entries whatever the register's size, so that no part of a room is lent.
 use pair_chain::chain;
 use pair_chain::place;
 use pair_chain::wide;

@@ -1,5 +1,8 @@
 // Words and decimals written into a lent room, one behind the other, and how long they are. What is written, and that there is
 // room for it, is for others to say; a register's number is left to `register_number`.
+//
+// Decimals are put two digits at a time, since each division waits for the one before: one by one, writing numbers took two fifths
+// of the time of a listing with few objections.
 ghost use mathlib.Core.Path.{_≡_};
 ghost use Prim.Native.Nat.{_<_};
 ghost use lib.ListN.{length};
@@ -46,7 +49,7 @@ fn put_digits(room: &mut [u8], at: usize, number: u32) -> usize
     at + 2
 }
 
-// Two digits at a time, since each division waits for the one before.
+// A number in decimals: those of a hundredth first, and then the last two.
 pub fn put_decimal(room: &mut [u8], at: usize, number: u32) -> usize
     requires { ⌜ RoomFor (now room) at (decimal number) ⌝ }
     ensures { λ r. ⌜ Put (now (room .entry)) at (decimal number) r (now (room .exit)) ⌝ }

@@ -1,5 +1,8 @@
 // A label sheet made afresh or updated, from labels that others have found, and its totals. How codes stand in bytes is left to
 // `sheet_code`, and whether an old sheet is sound to `sheet_check`.
+//
+// A fresh sheet is an update of zeros, so one loop sets codes, and it sets one only where it differs: a byte without a changed
+// label is not stored to. The totals are counted from the sheet, the statements of all four codes in one pass.
 use sheet_code::code_at;
 use sheet_code::set_code;
 use sheet_code::tally;

@@ -14,7 +14,7 @@ use Rattle.game.proofs.HandedBook.{objects-entry}
 use Rattle.game.proofs.Verdict.{verdict, means-verdict, means-unique}
 use Rattle.game.proofs.Agree.{verdict-agrees}
 use Rattle.label_solve.specs.Labelled.{ListsLabelled}
-use Rattle.argument_find.specs.ArgumentRoom.{Turns, ArgumentIn, ObjectsWith}
+use Rattle.argument_find.specs.ArgumentRoom.{Turns, Other, ArgumentIn, ObjectsWith}
 use Rattle.game.specs.Argument as game
 
 -- the label number of a verdict, and the number of turns, tell the verdict
@@ -25,8 +25,8 @@ turns-told labels lengths x n (stands k) a b (p, q) = q (λ e. omega (arith, a, 
 turns-told labels lengths x n (falls k) a b (p, q) = q (λ e. omega (arith, a, e)) ∙ b
 
 -- what follows a verdict has the other label, and one turn less
-other-told : (v w : Verdict) (n label other : ℕ) → game.Onward v w → turns v ≡ n → label ≡ labelNumber v → (label ≡ 1 → other ≡ 2)
-    × (label ≡ 2 → other ≡ 1) → (labelNumber w ≡ other) × (lengthNumber w ≡ n - 1)
+other-told : (v w : Verdict) (n label other : ℕ) → game.Onward v w → turns v ≡ n → label ≡ labelNumber v
+    → Other label other → (labelNumber w ≡ other) × (lengthNumber w ≡ n - 1)
 other-told (falls k) (stands m) n label other d e a (p, q) = (sym (q a), omega arith)
 other-told (falls k) (falls m) n label other d e a o = absurd d
 other-told (falls k) is-open n label other d e a o = absurd d
@@ -36,8 +36,8 @@ other-told (stands k) is-open n label other d e a o = absurd d
 other-told is-open w n label other d e a o = absurd d
 
 -- and what has the other label and one turn less can follow it
-onward-told : (v w : Verdict) (n label other : ℕ) → n ≡ turns v → (n ≡ 0 → ⊥) → label ≡ labelNumber v → (label ≡ 1 → other ≡ 2)
-    × (label ≡ 2 → other ≡ 1) → labelNumber w ≡ other → lengthNumber w ≡ n - 1 → game.Onward v w
+onward-told : (v w : Verdict) (n label other : ℕ) → n ≡ turns v → (n ≡ 0 → ⊥) → label ≡ labelNumber v
+    → Other label other → labelNumber w ≡ other → lengthNumber w ≡ n - 1 → game.Onward v w
 onward-told (falls k) (stands m) n label other e z a (p, q) f g = omega arith
 onward-told (falls k) (falls m) n label other e z a (p, q) f g = omega (arith, q a, f)
 onward-told (falls k) is-open n label other e z a (p, q) f g = omega (arith, q a, f)
@@ -47,8 +47,8 @@ onward-told (stands k) is-open n label other e z a (p, q) f g = omega (arith, p 
 onward-told is-open w n label other e z a o f g = absurd (z e)
 
 -- the other label is not that of an open statement
-not-open : (v : Verdict) (n label other : ℕ) → n ≡ turns v → (n ≡ 0 → ⊥) → label ≡ labelNumber v → (label ≡ 1 → other ≡ 2)
-    × (label ≡ 2 → other ≡ 1) → other ≡ 0 → ⊥
+not-open : (v : Verdict) (n label other : ℕ) → n ≡ turns v → (n ≡ 0 → ⊥) → label ≡ labelNumber v
+    → Other label other → other ≡ 0 → ⊥
 not-open is-open n label other e z a o f = z e
 not-open (stands k) n label other e z a (p, q) f = omega (arith, p a, f)
 not-open (falls k) n label other e z a (p, q) f = omega (arith, q a, f)
@@ -97,7 +97,7 @@ module _ (marks objectors targets labels lengths : List ℕ) (s : ListsLabelled 
         short = λ g. absurd (omega (arith, line-counts l t));
       }
 
-  module _ (other : ℕ) (ot : (getD labels x 0 ≡ 1 → other ≡ 2) × (getD labels x 0 ≡ 2 → other ≡ 1)) (some : n ≡ 0 → ⊥) where
+  module _ (other : ℕ) (ot : Other (getD labels x 0) other) (some : n ≡ 0 → ⊥) where
     told-of : (y : ℕ) → y < length marks → Told (bookOf marks objectors targets) y (getD labels y 0) (getD lengths y 0)
     unfolding bookOf
     told-of y h = s .labelled .told y h

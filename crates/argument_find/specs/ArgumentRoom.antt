@@ -19,6 +19,10 @@ pub record ArgumentIn (B : Book) (x : ℕ) (room : List ℕ) (n : ℕ) (after : 
 abbrev pub Turns : (labels lengths : List ℕ) → ℕ → ℕ → Type 0
 Turns labels lengths x n = (getD labels x 0 ≡ 0 → n ≡ 0) × ((getD labels x 0 ≡ 0 → ⊥) → n ≡ getD lengths x 0)
 
+-- the other of stands and falls
+abbrev pub Other : (label other : ℕ) → Type 0
+Other label other = (label ≡ 1 → other ≡ 2) × (label ≡ 2 → other ≡ 1)
+
 -- y objects to x, and has this label and this length
 abbrev pub ObjectsWith : (objectors targets labels lengths : List ℕ) → (x label turns y : ℕ) → Type 0
 ObjectsWith objectors targets labels lengths x label turns y =

@@ -10,13 +10,13 @@ use pair_chain::wide;
 ghost use mathlib.Core.List.{List, _++_};
 ghost use mathlib.Core.Path.{_≡_};
 ghost use Prim.Native.Nat.{_<_, ℕ};
-ghost use lib.ListN.{length, drop};
+ghost use lib.ListN.{length, drop, getD};
 ghost use Rattle.game.specs.Book.{bookOf};
 ghost use Rattle.game.specs.Label.{Least};
 ghost use Rattle.game.specs.Argument.{Argument};
 ghost use Rattle.pair_chain.specs.Linked.{Chains};
 ghost use Rattle.label_solve.specs.Labelled.{ListsLabelled};
-ghost use Rattle.argument_find.specs.ArgumentRoom.{Turns, ObjectsWith, ArgumentIn};
+ghost use Rattle.argument_find.specs.ArgumentRoom.{Turns, Other, ObjectsWith, ArgumentIn};
 
 // The length of x, or 0 for an open one: how many statements come after x in its line.
 fn turns(labels: &[u8], lengths: &[u16], x: usize) -> u16
@@ -31,7 +31,7 @@ fn turns(labels: &[u8], lengths: &[u16], x: usize) -> u16
 
 // The other of stands and falls.
 fn other(label: u8) -> u8
-    ensures { λ r. ⌜ (label ≡ 1 → r ≡ 2) × (label ≡ 2 → r ≡ 1) ⌝ }
+    ensures { λ r. ⌜ Other label r ⌝ }
 {
     if label == 1 {
         return 2;
@@ -39,7 +39,7 @@ fn other(label: u8) -> u8
     1
 }
 
-// The earliest listed objector of x that has this label and length, where there is one.
+// The earliest listed objector of x that has the other label than x and this length, where there is one.
 fn onward(
     marks: &[u8],
     objectors: &[u32],
@@ -49,16 +49,17 @@ fn onward(
     labels: &[u8],
     lengths: &[u16],
     x: usize,
-    label: u8,
     turns: u16,
 ) -> usize
     requires { ⌜ ListsLabelled (now marks) (now objectors) (now targets) (now labels) (now lengths)
         × Chains (now marks) (now targets) (now head) (now next) × (x < length (now marks)) ⌝ }
-    requires { ⌜ ((y : ℕ) × ObjectsWith (now objectors) (now targets) (now labels) (now lengths) x label turns y) ⌝ }
-    ensures { λ y. ⌜ Least (ObjectsWith (now (objectors .entry)) (now (targets .entry)) (now (labels .entry)) (now
-        (lengths .entry)) x
-        label turns) y ⌝ }
+    requires { ⌜ ((label : ℕ) → Other (getD (now labels) x 0) label
+        → (y : ℕ) × ObjectsWith (now objectors) (now targets) (now labels) (now lengths) x label turns y) ⌝ }
+    ensures { λ y. ⌜ ((label : ℕ) × Other (getD (now (labels .entry)) x 0) label
+        × Least (ObjectsWith (now (objectors .entry)) (now (targets .entry)) (now (labels .entry)) (now (lengths .entry)) x
+        label turns) y) ⌝ }
 {
+    let label = other(labels[x]);
     let mut earliest = marks.len();
     let mut c = wide(head[x]);
     // Of the objectors of x passed, `earliest` is the first listed with the label and length, or the number of statements.
@@ -102,7 +103,6 @@ fn write(
     if turns == 0 {
         return;
     }
-    let label = other(labels[x]);
     let y = onward(
         marks,
         objectors,
@@ -112,7 +112,6 @@ fn write(
         labels,
         lengths,
         x,
-        label,
         turns - 1,
     );
     write(

@@ -5,13 +5,10 @@ use answer::Answer;
 use answer::Refusal;
 use lists_check::Checked;
 use register_read::Reading;
-ghost use mathlib.Core.List.{List};
 ghost use Prim.Native.Nat.{_≤_, ℕ, _<_};
 ghost use lib.ListN.{length, getD};
 ghost use mathlib.Core.Path.{_≡_};
-ghost use Rattle.register_read.specs.ReadState.{Spacious};
-ghost use Rattle.register_read.specs.declared.Reading.the-variants.{Whole};
-ghost use Rattle.register_solve.specs.SolvedText.{SolvedText, Ready};
+ghost use Rattle.register_solve.specs.SolvedText.{Ready};
 ghost use Rattle.promises.specs.ArgumentCalls.{TextArgument, PairsArgument};
 ghost use Rattle.register.specs.Register.{Register};
 ghost use Rattle.answer.specs.Answer.{Begins};
@@ -91,39 +88,6 @@ fn write_argument(
     Answer::Given(n as u32)
 }
 
-// Writes the line of argument in the n statements and m objections that rooms begin with.
-fn argument_rooms(
-    numbers: &[u32],
-    marks: &[u8],
-    objectors: &[u32],
-    targets: &[u32],
-    labels: &[u8],
-    lengths: &[u16],
-    n: usize,
-    m: usize,
-    number: u32,
-    line: &mut [u32],
-) -> Answer
-    requires { ⌜ Spacious (now numbers) (now marks) (now objectors) (now targets) ⌝ }
-    requires { ⌜ (1024 ≤ length (now labels)) × (1024 ≤ length (now lengths)) ⌝ }
-    requires { ⌜ ((text : List ℕ) × SolvedText text (now numbers) (now marks) (now objectors) (now targets) (now labels)
-        (now lengths) (Whole n m)) ⌝ }
-    ensures { λ a. ⌜ ((text : List ℕ) → SolvedText text (now (numbers .entry)) (now (marks .entry)) (now (objectors .entry))
-        (now (targets .entry)) (now (labels .entry)) (now (lengths .entry)) (Whole n m)
-        → TextArgument text number (now (line .entry)) a (now (line .exit))) ⌝ }
-{
-    write_argument(
-        &numbers[..n],
-        &marks[..n],
-        &objectors[..m],
-        &targets[..m],
-        labels,
-        lengths,
-        number,
-        line,
-    )
-}
-
 // The line of argument of the statement of a number, by numbers.
 pub fn text_line(text: &[u8], number: u32, line: &mut [u32]) -> Answer
     ensures { λ a. ⌜ TextArgument (now (text .entry)) number (now (line .entry)) a (now (line .exit)) ⌝ }
@@ -145,15 +109,13 @@ pub fn text_line(text: &[u8], number: u32, line: &mut [u32]) -> Answer
     );
     match reading {
         Reading::Refused(fault) => Answer::Refused(Refusal::Text(fault)),
-        Reading::Whole(n, m) => argument_rooms(
-            &numbers,
-            &marks,
-            &objectors,
-            &targets,
+        Reading::Whole(n, m) => write_argument(
+            &numbers[..n],
+            &marks[..n],
+            &objectors[..m],
+            &targets[..m],
             &labels,
             &lengths,
-            n,
-            m,
             number,
             line,
         ),

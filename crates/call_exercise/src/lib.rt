@@ -5,10 +5,7 @@ use answer::Answer;
 use answer::Refusal;
 use lists_check::Checked;
 use register_read::Reading;
-ghost use mathlib.Core.List.{List};
-ghost use Prim.Native.Nat.{ℕ};
-ghost use Rattle.register_read.specs.ReadState.{Spacious, ReadsTo, Made};
-ghost use Rattle.register_read.specs.declared.Reading.the-variants.{Whole};
+ghost use Rattle.register_read.specs.ReadState.{Made};
 ghost use Rattle.promises.specs.ExerciseCalls.{TextExercise, PairsExercise};
 ghost use Rattle.register.specs.Register.{Register};
 ghost use Rattle.call_exercise.specs.ExerciseAnswer.{ExerciseAnswered};
@@ -63,32 +60,6 @@ fn ask_exercise(
     Answer::Given(exercise_ask::answer(marks, objectors, targets, x, most))
 }
 
-// Asks it of the n statements and m objections that rooms begin with.
-fn exercise_rooms(
-    numbers: &[u32],
-    marks: &[u8],
-    objectors: &[u32],
-    targets: &[u32],
-    n: usize,
-    m: usize,
-    number: u32,
-    turns: u32,
-) -> Answer
-    requires { ⌜ Spacious (now numbers) (now marks) (now objectors) (now targets) ⌝ }
-    requires { ⌜ ((text : List ℕ) × ReadsTo text (now numbers) (now marks) (now objectors) (now targets) (Whole n m)) ⌝ }
-    ensures { λ a. ⌜ ((text : List ℕ) → ReadsTo text (now (numbers .entry)) (now (marks .entry)) (now (objectors .entry))
-        (now (targets .entry)) (Whole n m) → TextExercise text number turns a) ⌝ }
-{
-    ask_exercise(
-        &numbers[..n],
-        &marks[..n],
-        &objectors[..m],
-        &targets[..m],
-        number,
-        turns,
-    )
-}
-
 // The class exercise on the statement of a number: 2 falls within the turns, 1 stands within them, 0 neither.
 pub fn text_exercise(text: &[u8], number: u32, turns: u32) -> Answer
     ensures { λ a. ⌜ TextExercise (now (text .entry)) number turns a ⌝ }
@@ -100,13 +71,11 @@ pub fn text_exercise(text: &[u8], number: u32, turns: u32) -> Answer
     let reading = register_read::read(text, &mut numbers, &mut marks, &mut objectors, &mut targets);
     match reading {
         Reading::Refused(fault) => Answer::Refused(Refusal::Text(fault)),
-        Reading::Whole(n, m) => exercise_rooms(
-            &numbers,
-            &marks,
-            &objectors,
-            &targets,
-            n,
-            m,
+        Reading::Whole(n, m) => ask_exercise(
+            &numbers[..n],
+            &marks[..n],
+            &objectors[..m],
+            &targets[..m],
             number,
             turns,
         ),

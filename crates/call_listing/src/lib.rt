@@ -4,13 +4,8 @@
 use answer::Answer;
 use answer::Refusal;
 use register_read::Reading;
-ghost use mathlib.Core.List.{List};
-ghost use Prim.Native.Nat.{_≤_, ℕ};
-ghost use lib.ListN.{length};
 ghost use Rattle.register.specs.Register.{Register};
-ghost use Rattle.register_read.specs.ReadState.{Spacious};
-ghost use Rattle.register_read.specs.declared.Reading.the-variants.{Whole};
-ghost use Rattle.register_solve.specs.SolvedText.{Ready, SolvedText};
+ghost use Rattle.register_solve.specs.SolvedText.{Ready};
 ghost use Rattle.promises.specs.ListingCalls.{TextListing};
 ghost use Rattle.call_listing.specs.ListingRoom.{Bounded, HasRoom, ListingWritten};
 
@@ -68,37 +63,6 @@ fn write_listing(
     Answer::Refused(Refusal::Room)
 }
 
-// Writes the listing of the n statements and m objections that rooms begin with.
-fn list_rooms(
-    numbers: &[u32],
-    marks: &[u8],
-    objectors: &[u32],
-    targets: &[u32],
-    labels: &[u8],
-    lengths: &[u16],
-    n: usize,
-    m: usize,
-    room: &mut [u8],
-) -> Answer
-    requires { ⌜ Spacious (now numbers) (now marks) (now objectors) (now targets) ⌝ }
-    requires { ⌜ (1024 ≤ length (now labels)) × (1024 ≤ length (now lengths)) ⌝ }
-    requires { ⌜ ((text : List ℕ) × SolvedText text (now numbers) (now marks) (now objectors) (now targets) (now labels)
-        (now lengths) (Whole n m)) ⌝ }
-    ensures { λ a. ⌜ ((text : List ℕ) → SolvedText text (now (numbers .entry)) (now (marks .entry)) (now (objectors .entry))
-        (now (targets .entry)) (now (labels .entry)) (now (lengths .entry)) (Whole n m)
-        → TextListing text (now (room .entry)) a (now (room .exit))) ⌝ }
-{
-    write_listing(
-        &numbers[..n],
-        &marks[..n],
-        &objectors[..m],
-        &targets[..m],
-        labels,
-        lengths,
-        room,
-    )
-}
-
 // The listing.
 pub fn text_listing(text: &[u8], room: &mut [u8]) -> Answer
     ensures { λ a. ⌜ TextListing (now (text .entry)) (now (room .entry)) a (now (room .exit)) ⌝ }
@@ -120,15 +84,13 @@ pub fn text_listing(text: &[u8], room: &mut [u8]) -> Answer
     );
     match reading {
         Reading::Refused(fault) => Answer::Refused(Refusal::Text(fault)),
-        Reading::Whole(n, m) => list_rooms(
-            &numbers,
-            &marks,
-            &objectors,
-            &targets,
+        Reading::Whole(n, m) => write_listing(
+            &numbers[..n],
+            &marks[..n],
+            &objectors[..m],
+            &targets[..m],
             &labels,
             &lengths,
-            n,
-            m,
             room,
         ),
     }

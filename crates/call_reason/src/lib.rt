@@ -4,14 +4,11 @@
 use answer::Answer;
 use answer::Refusal;
 use register_read::Reading;
-ghost use mathlib.Core.List.{List};
 ghost use mathlib.Core.Path.{_≡_};
-ghost use Prim.Native.Nat.{_≤_, _<_, ℕ};
+ghost use Prim.Native.Nat.{_≤_, _<_};
 ghost use lib.ListN.{length};
 ghost use Rattle.register.specs.Register.{Register};
-ghost use Rattle.register_read.specs.ReadState.{Spacious};
-ghost use Rattle.register_read.specs.declared.Reading.the-variants.{Whole};
-ghost use Rattle.register_solve.specs.SolvedText.{Ready, SolvedText};
+ghost use Rattle.register_solve.specs.SolvedText.{Ready};
 ghost use Rattle.room_write.specs.Writing.{RoomFor, Put};
 ghost use Rattle.listing_row.specs.RowsAt.{Listable};
 ghost use Rattle.call_reason.specs.ReasonRows.{chosenPart, RowsWritten, ReasonWritten};
@@ -168,39 +165,6 @@ fn write_reason(
     )
 }
 
-// Writes the reason of a statement among the n statements and m objections that rooms begin with.
-fn reason_rooms(
-    numbers: &[u32],
-    marks: &[u8],
-    objectors: &[u32],
-    targets: &[u32],
-    labels: &[u8],
-    lengths: &[u16],
-    n: usize,
-    m: usize,
-    number: u32,
-    room: &mut [u8],
-) -> Answer
-    requires { ⌜ Spacious (now numbers) (now marks) (now objectors) (now targets) ⌝ }
-    requires { ⌜ (1024 ≤ length (now labels)) × (1024 ≤ length (now lengths)) ⌝ }
-    requires { ⌜ ((text : List ℕ) × SolvedText text (now numbers) (now marks) (now objectors) (now targets) (now labels)
-        (now lengths) (Whole n m)) ⌝ }
-    ensures { λ a. ⌜ ((text : List ℕ) → SolvedText text (now (numbers .entry)) (now (marks .entry)) (now (objectors .entry))
-        (now (targets .entry)) (now (labels .entry)) (now (lengths .entry)) (Whole n m)
-        → TextReason text number (now (room .entry)) a (now (room .exit))) ⌝ }
-{
-    write_reason(
-        &numbers[..n],
-        &marks[..n],
-        &objectors[..m],
-        &targets[..m],
-        labels,
-        lengths,
-        number,
-        room,
-    )
-}
-
 // The reason of the statement of a number.
 pub fn text_reason(text: &[u8], number: u32, room: &mut [u8]) -> Answer
     ensures { λ a. ⌜ TextReason (now (text .entry)) number (now (room .entry)) a (now (room .exit)) ⌝ }
@@ -222,15 +186,13 @@ pub fn text_reason(text: &[u8], number: u32, room: &mut [u8]) -> Answer
     );
     match reading {
         Reading::Refused(fault) => Answer::Refused(Refusal::Text(fault)),
-        Reading::Whole(n, m) => reason_rooms(
-            &numbers,
-            &marks,
-            &objectors,
-            &targets,
+        Reading::Whole(n, m) => write_reason(
+            &numbers[..n],
+            &marks[..n],
+            &objectors[..m],
+            &targets[..m],
             &labels,
             &lengths,
-            n,
-            m,
             number,
             room,
         ),

@@ -12,7 +12,6 @@ use Rattle.argument_find.proofs.write.Reads as write
 use Rattle.argument_find.proofs.write.Kinds as write-kinds
 use Rattle.argument_find.proofs.+write.Lts-write as write-lts
 use Rattle.argument_find.proofs.onward.Reads as onward-reads
-use Rattle.argument_find.proofs.other.Reads as other-reads
 use Rattle.argument_find.proofs.+write.{statement}
 use Rattle.argument_find.proofs.+write.Tie.{close}
 
@@ -26,8 +25,6 @@ abbrev write-below : ℕ → In 8 write-kinds.ps
 write-below t = and 8 write-kinds.ps (falls 8 write-kinds.ps _<_ μ-write t) write.Pre
 
 write-cast-line : (t : ℕ) → write-lts.Need-cast-line (
-  other-reads.Asked,
-  other-reads.Learnt,
   onward-reads.Asked,
   onward-reads.Learnt,
   write-below t,
@@ -36,8 +33,6 @@ write-cast-line : (t : ℕ) → write-lts.Need-cast-line (
 write-cast-line t c = search needs
 
 write-slice-write-line : (t : ℕ) → write-lts.Need-slice-write-line (
-  other-reads.Asked,
-  other-reads.Learnt,
   onward-reads.Asked,
   onward-reads.Learnt,
   write-below t,
@@ -46,8 +41,6 @@ write-slice-write-line : (t : ℕ) → write-lts.Need-slice-write-line (
 write-slice-write-line t c = search needs
 
 write-same-length : (t : ℕ) → write-lts.Need-same-length (
-  other-reads.Asked,
-  other-reads.Learnt,
   onward-reads.Asked,
   onward-reads.Learnt,
   write-below t,
@@ -56,8 +49,6 @@ write-same-length : (t : ℕ) → write-lts.Need-same-length (
 write-same-length t c = search needs
 
 write-returns : (t : ℕ) → write-lts.Need-returns (
-  other-reads.Asked,
-  other-reads.Learnt,
   onward-reads.Asked,
   onward-reads.Learnt,
   write-below t,
@@ -71,29 +62,7 @@ write-returns t c =
       room-first (args .line .now) (args .x) (omega (arith, pre .1 .1 .2)),
     )
 
-write-shared-slice-read-other : (t : ℕ) → write-lts.Need-shared-slice-read-other (
-  other-reads.Asked,
-  other-reads.Learnt,
-  onward-reads.Asked,
-  onward-reads.Learnt,
-  write-below t,
-  write.Post,
-) (write-at t) write.Post
-write-shared-slice-read-other t c = search needs
-
-write-other-requires : (t : ℕ) → write-lts.Need-other-requires (
-  other-reads.Asked,
-  other-reads.Learnt,
-  onward-reads.Asked,
-  onward-reads.Learnt,
-  write-below t,
-  write.Post,
-) (write-at t) write.Post
-write-other-requires t c κs = search needs
-
 write-sub-onward : (t : ℕ) → write-lts.Need-sub-onward (
-  other-reads.Asked,
-  other-reads.Learnt,
   onward-reads.Asked,
   onward-reads.Learnt,
   write-below t,
@@ -102,23 +71,18 @@ write-sub-onward : (t : ℕ) → write-lts.Need-sub-onward (
 write-sub-onward t c = search needs
 
 write-onward-requires : (t : ℕ) → write-lts.Need-onward-requires (
-  other-reads.Asked,
-  other-reads.Learnt,
   onward-reads.Asked,
   onward-reads.Learnt,
   write-below t,
   write.Post,
 ) (write-at t) write.Post
 write-onward-requires t c κs =
-    let pre = c .before .before .before .before .before .before .before .before .before .before .before .pre in (
-      ((pre .1 .0 .0), (pre .1 .0 .1), (pre .1 .1 .0)),
-      onward-there _ _ _ _ _ (pre .1 .0 .0) _ _ (pre .1 .1 .0) (pre .1 .1 .1) _
-          (c .other .ensures) (c .before .before .if1 .left),
+    let pre = c .before .before .before .before .before .before .before .before .before .pre in (
+      (pre .1 .0 .0, pre .1 .0 .1, pre .1 .1 .0),
+      λ label ot. onward-there _ _ _ _ _ (pre .1 .0 .0) _ _ (pre .1 .1 .0) (pre .1 .1 .1) label ot (c .if1 .left),
     )
 
 write-sub-write : (t : ℕ) → write-lts.Need-sub-write (
-  other-reads.Asked,
-  other-reads.Learnt,
   onward-reads.Asked,
   onward-reads.Learnt,
   write-below t,
@@ -127,32 +91,26 @@ write-sub-write : (t : ℕ) → write-lts.Need-sub-write (
 write-sub-write t c = search needs
 
 write-sub-write-2 : (t : ℕ) → write-lts.Need-sub-write-2 (
-  other-reads.Asked,
-  other-reads.Learnt,
   onward-reads.Asked,
   onward-reads.Learnt,
   write-below t,
   write.Post,
 ) (write-at t) write.Post
 write-sub-write-2 t c =
-    let pre = c .before .before .before .before .before .before .before .before .before .before .before .before .pre in
+    let pre = c .before .before .before .before .before .before .before .before .before .before .pre in
     simp length-set (omega (arith, pre .1 .1 .2))
 
 write-part-write-start : (t : ℕ) → write-lts.Need-part-write-start (
-  other-reads.Asked,
-  other-reads.Learnt,
   onward-reads.Asked,
   onward-reads.Learnt,
   write-below t,
   write.Post,
 ) (write-at t) write.Post
 write-part-write-start t c =
-    let pre = c .before .before .before .before .before .before .before .before .before .before .before .before .pre in
+    let pre = c .before .before .before .before .before .before .before .before .before .before .pre in
     simp length-set (omega (arith, pre .1 .1 .2))
 
 write-part-write-end : (t : ℕ) → write-lts.Need-part-write-end (
-  other-reads.Asked,
-  other-reads.Learnt,
   onward-reads.Asked,
   onward-reads.Learnt,
   write-below t,
@@ -161,68 +119,58 @@ write-part-write-end : (t : ℕ) → write-lts.Need-part-write-end (
 write-part-write-end t c = search needs
 
 write-write-requires : (t : ℕ) → write-lts.Need-write-requires (
-  other-reads.Asked,
-  other-reads.Learnt,
   onward-reads.Asked,
   onward-reads.Learnt,
   write-below t,
   write.Post,
 ) (write-at t) write.Post
 write-write-requires t c κs =
-    let pre = c .before .before .before .before .before .before .before .before .before .before .before .before .before .pre in
-    let args = c .before .before .before .before .before .before .before .before .before .before .before .before .before .args in
-    let if1 = c .before .before .before .before .if1 in
-    let other = c .before .before .other in (
+    let pre = c .before .before .before .before .before .before .before .before .before .before .before .pre in
+    let args = c .before .before .before .before .before .before .before .before .before .before .before .args in
+    let if1 = c .before .before .if1 in
+    let (label, ot, least) = c .before .onward .ensures in (
       omega (arith, if1 .left, pre .0),
       (
         pre .1 .0,
         (
-          onward-listed _ _ _ _ _ (pre .1 .0 .0) _ _ (pre .1 .1 .0) (pre .1 .1 .1) _
-              (other .ensures) (if1 .left) _ (c .before .onward .ensures),
-          onward-turns _ _ _ _ _ (pre .1 .0 .0) _ _ (pre .1 .1 .0) (pre .1 .1 .1) _ (other .ensures) (if1 .left) _
-              (c .before .onward .ensures),
+          onward-listed _ _ _ _ _ (pre .1 .0 .0) _ _ (pre .1 .1 .0) (pre .1 .1 .1) label ot (if1 .left) _ least,
+          onward-turns _ _ _ _ _ (pre .1 .0 .0) _ _ (pre .1 .1 .0) (pre .1 .1 .1) label ot (if1 .left) _ least,
           omega (arith, rest-length (args .line .now) (args .x), pre .1 .1 .2, if1 .left),
         ),
       ),
     )
 
 write-same-length-2 : (t : ℕ) → write-lts.Need-same-length-2 (
-  other-reads.Asked,
-  other-reads.Learnt,
   onward-reads.Asked,
   onward-reads.Learnt,
   write-below t,
   write.Post,
 ) (write-at t) write.Post
 write-same-length-2 t c =
-    let args = c .before .before .before .before .before .before .before .before .before .before .before .before .before .before .before .before .args in
+    let tested = c .before .before .before .before .before in
+    let args = tested .before .before .before .before .before .before .before .before .before .args in
     let write = c .before .before .write in
     rest-kept (args .line .now) (args .x) (write .last .1 .1 .1 .1 .1 .1 .1 .1 .1 .0) (write .kept .1 .1 .1 .1 .1 .1 .1 .1 .1 .0)
 
 write-returns-2 : (t : ℕ) → write-lts.Need-returns-2 (
-  other-reads.Asked,
-  other-reads.Learnt,
   onward-reads.Asked,
   onward-reads.Learnt,
   write-below t,
   write.Post,
 ) (write-at t) write.Post
 write-returns-2 t c =
-    let args = c .before .before .before .before .before .before .before .before .before .before .before .before .before .before .before .before .args in
-    let pre = c .before .before .before .before .before .before .before .before .before .before .before .before .before .before .before .before .pre in
-    let if1 = c .before .before .before .before .before .before .before .if1 in
-    let other = c .before .before .before .before .before .other in
+    let tested = c .before .before .before .before .before in
+    let args = tested .before .before .before .before .before .before .before .before .before .args in
+    let pre = tested .before .before .before .before .before .before .before .before .before .pre in
+    let (label, ot, least) = c .before .before .before .before .onward .ensures in
     let (l, r, e) = c .before .before .write .ensures in (
       args .x ∷ l,
-      line-goes-on _ _ _ _ _ (pre .1 .0 .0) _ _ (pre .1 .1 .0) (pre .1 .1 .1) _ (other .ensures) (if1 .left) _
-          (c .before .before .before .before .onward .ensures) l r,
+      line-goes-on _ _ _ _ _ (pre .1 .0 .0) _ _ (pre .1 .1 .0) (pre .1 .1 .1) label ot (tested .if1 .left) _ least l r,
       room-rest (args .line .now) (args .x) l _ (omega (arith, pre .1 .1 .2)) e,
     )
 
 pub +write-spec : {M : Type 1} → statement M
 +write-spec = close μ-write λ t. write-lts.spec (
-  other-reads.Asked,
-  other-reads.Learnt,
   onward-reads.Asked,
   onward-reads.Learnt,
   write-below t,
@@ -234,8 +182,6 @@ pub +write-spec : {M : Type 1} → statement M
     (write-slice-write-line t)
     (write-same-length t)
     (write-returns t)
-    (write-shared-slice-read-other t)
-    (write-other-requires t)
     (write-sub-onward t)
     (write-onward-requires t)
     (write-sub-write t)

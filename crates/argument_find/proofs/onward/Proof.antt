@@ -9,20 +9,26 @@ use Rattle.argument_find.proofs.onward.Statement.{statement}
 use Rattle.argument_find.proofs.onward.Tie as tie
 
 abbrev Inv-loop : tie.InvT-loop
-Inv-loop marks objectors targets head next labels lengths x label turns earliest₀ c₀ earliest c =
+Inv-loop marks objectors targets head next labels lengths x turns label earliest₀ c₀ earliest c =
     Search objectors targets labels lengths x label turns (length marks) earliest c
 
 abbrev μ-loop : tie.MeasureT-loop
-μ-loop marks objectors targets head next labels lengths x label turns earliest₀ c₀ earliest c = c
+μ-loop marks objectors targets head next labels lengths x turns label earliest₀ c₀ earliest c = c
+
+shared-slice-read-other : tie.Need-shared-slice-read-other Inv-loop μ-loop
+shared-slice-read-other c = search needs
+
+other-requires : tie.Need-other-requires Inv-loop μ-loop
+other-requires c κs = search needs
 
 mul-wide : tie.Need-mul-wide Inv-loop μ-loop
 mul-wide c =
-    let pre = c .before .before .before .before .before .before .before .pre in
+    let pre = c .before .before .before .before .before .before .before .before .before .pre in
     omega (arith, pre .0 .2, pre .0 .0 .handed .few-marks)
 
 shared-slice-read-wide : tie.Need-shared-slice-read-wide Inv-loop μ-loop
 shared-slice-read-wide c =
-    let pre = c .before .before .before .before .before .before .before .before .pre in
+    let pre = c .before .before .before .before .before .before .before .before .before .before .pre in
     omega (arith, pre .0 .2, pre .0 .1 .head-room)
 
 wide-requires : tie.Need-wide-requires Inv-loop μ-loop
@@ -30,7 +36,7 @@ wide-requires c κs = search needs
 
 loop-holds : tie.Need-loop-holds Inv-loop μ-loop
 loop-holds c =
-    let pre = c .before .before .before .before .before .before .before .before .before .pre in
+    let pre = c .before .before .before .before .before .before .before .before .before .before .before .pre in
     search-begins _ _ _ _ _ _ _ _ (pre .0 .0 .handed .order .paired) (pre .0 .1 .chained)
     (omega (arith, pre .0 .2, pre .0 .1 .head-room)) (c .wide .ensures)
 
@@ -39,13 +45,14 @@ sub-place c = search needs
 
 mul-place : tie.Need-mul-place Inv-loop μ-loop
 mul-place c =
-    let pre = c .before .before .before .before .before .before .before .before .before .before .before .pre in
+    let pre = c .before .before .before .before .before .before .before .before .before .before .before .before .before .pre in
     omega (arith, c .before .loop .inv .walk .low, pre .0 .0 .handed .order .paired, pre .0 .0 .handed .few-pairs)
 
 shared-slice-read-place : tie.Need-shared-slice-read-place Inv-loop μ-loop
 shared-slice-read-place c =
-    let pre = c .before .before .before .before .before .before .before .before .before .before .before .before .pre in
-    omega (arith, c .before .loop-test .taken, c .before .before .loop .inv .walk .low, pre .0 .0 .handed .order .paired)
+    let round = c .before .before in
+    let pre = round .before .before .before .before .before .before .before .before .before .before .before .before .pre in
+    omega (arith, c .before .loop-test .taken, round .loop .inv .walk .low, pre .0 .0 .handed .order .paired)
 
 place-requires : tie.Need-place-requires Inv-loop μ-loop
 place-requires c κs = search needs
@@ -55,16 +62,18 @@ sub-wide c = search needs
 
 mul-wide-2 : tie.Need-mul-wide-2 Inv-loop μ-loop
 mul-wide-2 c =
-    let pre = c .before .before .before .before .before .before .before .before .before .before .before .before .before .pre in
-    omega (arith, c .before .before .before .loop .inv .walk .low, pre .0 .0 .handed .order .paired, pre .0 .0 .handed .few-pairs)
+    let round = c .before .before .before in
+    let pre = round .before .before .before .before .before .before .before .before .before .before .before .before .pre in
+    omega (arith, round .loop .inv .walk .low, pre .0 .0 .handed .order .paired, pre .0 .0 .handed .few-pairs)
 
 shared-slice-read-wide-2 : tie.Need-shared-slice-read-wide-2 Inv-loop μ-loop
 shared-slice-read-wide-2 c =
-    let pre = c .before .before .before .before .before .before .before .before .before .before .before .before .before .before .pre in
+    let round = c .before .before .before .before in
+    let pre = round .before .before .before .before .before .before .before .before .before .before .before .before .pre in
     omega (
       arith,
       c .before .before .before .loop-test .taken,
-      c .before .before .before .before .loop .inv .walk .low,
+      round .loop .inv .walk .low,
       pre .0 .1 .next-room,
     )
 
@@ -73,8 +82,9 @@ wide-requires-2 c κs = search needs
 
 shared-slice-read-if1 : tie.Need-shared-slice-read-if1 Inv-loop μ-loop
 shared-slice-read-if1 c =
-    let pre = c .before .before .before .before .before .before .before .before .before .before .before .before .before .before .before .before .pre in
-    let loop = c .before .before .before .before .before .before .loop in
+    let round = c .before .before .before .before .before .before in
+    let pre = round .before .before .before .before .before .before .before .before .before .before .before .before .pre in
+    let loop = round .loop in
     let loop-test = c .before .before .before .before .before .loop-test in
     omega (
       arith,
@@ -86,15 +96,17 @@ shared-slice-read-if1 c =
 
 loop-less : tie.Need-loop-less Inv-loop μ-loop
 loop-less c =
-    let pre = c .before .before .before .before .before .before .before .before .before .before .before .before .before .before .before .before .before .pre in
-    let loop = c .before .before .before .before .before .before .before .loop in
+    let round = c .before .before .before .before .before .before .before in
+    let pre = round .before .before .before .before .before .before .before .before .before .before .before .before .pre in
+    let loop = round .loop in
     let loop-test = c .before .before .before .before .before .before .loop-test in
     walk-lower (pre .0 .1 .chained) (loop .inv .walk) (loop-test .taken) (c .before .before .wide2 .ensures)
 
 loop-again : tie.Need-loop-again Inv-loop μ-loop
 loop-again c =
-    let pre = c .before .before .before .before .before .before .before .before .before .before .before .before .before .before .before .before .before .pre in
-    let loop = c .before .before .before .before .before .before .before .loop in
+    let round = c .before .before .before .before .before .before .before in
+    let pre = round .before .before .before .before .before .before .before .before .before .before .before .before .pre in
+    let loop = round .loop in
     let loop-test = c .before .before .before .before .before .before .loop-test in
     search-passes _ _ _ _ _ _ _ _ (pre .0 .0 .handed .order .paired) (pre .0 .1 .chained) (loop .inv) (loop-test .taken)
     (c .before .before .before .before .place .ensures) (c .before .before .wide2 .ensures)
@@ -102,8 +114,9 @@ loop-again c =
 
 mul-if2 : tie.Need-mul-if2 Inv-loop μ-loop
 mul-if2 c =
-    let pre = c .before .before .before .before .before .before .before .before .before .before .before .before .before .before .before .before .before .pre in
-    let loop = c .before .before .before .before .before .before .before .loop in
+    let round = c .before .before .before .before .before .before .before in
+    let pre = round .before .before .before .before .before .before .before .before .before .before .before .before .pre in
+    let loop = round .loop in
     let loop-test = c .before .before .before .before .before .before .loop-test in
     omega (
       arith,
@@ -115,8 +128,9 @@ mul-if2 c =
 
 shared-slice-read-if2 : tie.Need-shared-slice-read-if2 Inv-loop μ-loop
 shared-slice-read-if2 c =
-    let pre = c .before .before .before .before .before .before .before .before .before .before .before .before .before .before .before .before .before .before .pre in
-    let loop = c .before .before .before .before .before .before .before .before .loop in
+    let round = c .before .before .before .before .before .before .before .before in
+    let pre = round .before .before .before .before .before .before .before .before .before .before .before .before .pre in
+    let loop = round .loop in
     let loop-test = c .before .before .before .before .before .before .before .loop-test in
     let place = c .before .before .before .before .before .place in
     omega (
@@ -129,16 +143,18 @@ shared-slice-read-if2 c =
 
 loop-less-2 : tie.Need-loop-less-2 Inv-loop μ-loop
 loop-less-2 c =
-    let pre = c .before .before .before .before .before .before .before .before .before .before .before .before .before .before .before .before .before .before .before .pre in
-    let loop = c .before .before .before .before .before .before .before .before .before .loop in
+    let round = c .before .before .before .before .before .before .before .before .before in
+    let pre = round .before .before .before .before .before .before .before .before .before .before .before .before .pre in
+    let loop = round .loop in
     let loop-test = c .before .before .before .before .before .before .before .before .loop-test in
     walk-lower (pre .0 .1 .chained) (loop .inv .walk) (loop-test .taken)
     (c .before .before .before .before .wide2 .ensures)
 
 loop-again-2 : tie.Need-loop-again-2 Inv-loop μ-loop
 loop-again-2 c =
-    let pre = c .before .before .before .before .before .before .before .before .before .before .before .before .before .before .before .before .before .before .before .pre in
-    let loop = c .before .before .before .before .before .before .before .before .before .loop in
+    let round = c .before .before .before .before .before .before .before .before .before in
+    let pre = round .before .before .before .before .before .before .before .before .before .before .before .before .pre in
+    let loop = round .loop in
     let loop-test = c .before .before .before .before .before .before .before .before .loop-test in
     let place = c .before .before .before .before .before .before .place in
     search-passes _ _ _ _ _ _ _ _ (pre .0 .0 .handed .order .paired) (pre .0 .1 .chained) (loop .inv) (loop-test .taken)
@@ -146,16 +162,18 @@ loop-again-2 c =
 
 loop-less-3 : tie.Need-loop-less-3 Inv-loop μ-loop
 loop-less-3 c =
-    let pre = c .before .before .before .before .before .before .before .before .before .before .before .before .before .before .before .before .before .before .before .before .pre in
-    let loop = c .before .before .before .before .before .before .before .before .before .before .loop in
+    let round = c .before .before .before .before .before .before .before .before .before .before in
+    let pre = round .before .before .before .before .before .before .before .before .before .before .before .before .pre in
+    let loop = round .loop in
     let loop-test = c .before .before .before .before .before .before .before .before .before .loop-test in
     let wide2 = c .before .before .before .before .before .wide2 in
     walk-lower (pre .0 .1 .chained) (loop .inv .walk) (loop-test .taken) (wide2 .ensures)
 
 loop-again-3 : tie.Need-loop-again-3 Inv-loop μ-loop
 loop-again-3 c =
-    let pre = c .before .before .before .before .before .before .before .before .before .before .before .before .before .before .before .before .before .before .before .before .pre in
-    let loop = c .before .before .before .before .before .before .before .before .before .before .loop in
+    let round = c .before .before .before .before .before .before .before .before .before .before in
+    let pre = round .before .before .before .before .before .before .before .before .before .before .before .before .pre in
+    let loop = round .loop in
     let loop-test = c .before .before .before .before .before .before .before .before .before .loop-test in
     let place = c .before .before .before .before .before .before .before .place in
     let wide2 = c .before .before .before .before .before .wide2 in
@@ -164,16 +182,18 @@ loop-again-3 c =
 
 loop-less-4 : tie.Need-loop-less-4 Inv-loop μ-loop
 loop-less-4 c =
-    let pre = c .before .before .before .before .before .before .before .before .before .before .before .before .before .before .before .before .before .before .before .before .pre in
-    let loop = c .before .before .before .before .before .before .before .before .before .before .loop in
+    let round = c .before .before .before .before .before .before .before .before .before .before in
+    let pre = round .before .before .before .before .before .before .before .before .before .before .before .before .pre in
+    let loop = round .loop in
     let loop-test = c .before .before .before .before .before .before .before .before .before .loop-test in
     let wide2 = c .before .before .before .before .before .wide2 in
     walk-lower (pre .0 .1 .chained) (loop .inv .walk) (loop-test .taken) (wide2 .ensures)
 
 loop-again-4 : tie.Need-loop-again-4 Inv-loop μ-loop
 loop-again-4 c =
-    let pre = c .before .before .before .before .before .before .before .before .before .before .before .before .before .before .before .before .before .before .before .before .pre in
-    let loop = c .before .before .before .before .before .before .before .before .before .before .loop in
+    let round = c .before .before .before .before .before .before .before .before .before .before in
+    let pre = round .before .before .before .before .before .before .before .before .before .before .before .before .pre in
+    let loop = round .loop in
     let loop-test = c .before .before .before .before .before .before .before .before .before .loop-test in
     let place = c .before .before .before .before .before .before .before .place in
     let wide2 = c .before .before .before .before .before .wide2 in
@@ -182,9 +202,15 @@ loop-again-4 c =
 
 returns : tie.Need-returns Inv-loop μ-loop
 returns c =
-    let pre = c .before .before .before .before .before .before .before .before .before .before .before .pre in
-    search-ends _ _ _ _ _ _ _ _ (pre .0 .0 .handed .order .paired) (c .before .loop .inv)
-    (c .loop-test .left) (λ z o. omega (arith, pre .0 .0 .handed .order .objector (o .0 .0) (o .0 .1), o .0 .3)) (pre .1)
+    let round = c .before in
+    let pre = round .before .before .before .before .before .before .before .before .before .before .before .before .pre in
+    let other = round .before .before .before .other in (
+      other .result,
+      other .ensures,
+      search-ends _ _ _ _ _ _ _ _ (pre .0 .0 .handed .order .paired) (round .loop .inv) (c .loop-test .left)
+          (λ z o. omega (arith, pre .0 .0 .handed .order .objector (o .0 .0) (o .0 .1), o .0 .3))
+          (pre .1 (other .result) (other .ensures)),
+    )
 
 pub onward-spec : {M : Type 1} → statement M
 onward-spec =
@@ -192,6 +218,8 @@ onward-spec =
     (tie.spec
     Inv-loop
     μ-loop
+    shared-slice-read-other
+    other-requires
     mul-wide
     shared-slice-read-wide
     wide-requires

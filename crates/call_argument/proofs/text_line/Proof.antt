@@ -1,8 +1,13 @@
--- `text_line` looks for the line in what the solver left in the rooms.
+-- `text_line` looks for the line in the beginnings of the rooms that the solver left.
 use mathlib.Core.Logic.{inl}
-use mathlib.Core.Path.{refl}
+use mathlib.Core.Path.{refl, sym}
 use native.Mathlib.Omega.{arith}
 use borrow.Author.Needs.{needs}
+use Rattle.label_solve.proofs.RoomParts.{part-length}
+use Rattle.promises.specs.ArgumentCalls.{TextArgumentIn, TextArgumentRefused}
+use Rattle.answer.proofs.Inputs.{on-promised}
+use Rattle.promises.proofs.OnText.{text-apart}
+use Rattle.register_solve.proofs.SolvedRooms.{few-listed, few-objections, rooms-ready}
 use Rattle.call_argument.proofs.text_line.Statement.{statement}
 use Rattle.call_argument.proofs.text_line.Tie as tie
 
@@ -33,39 +38,61 @@ enum-known-reading c = search needs
 enum-known-reading-2 : tie.Need-enum-known-reading-2
 enum-known-reading-2 c = search needs
 
-slice-aggregate-argument-rooms : tie.Need-slice-aggregate-argument-rooms
-slice-aggregate-argument-rooms c = search needs
+array-share-prefix-numbers : tie.Need-array-share-prefix-numbers
+array-share-prefix-numbers c =
+    let matched = c .before in
+    let solve-text = matched .before .before .before .before .before .before .before .before .solve-text in
+    let whole = rw (matched .reading2 .given .1) at (solve-text .ensures) in
+    omega (arith, few-listed _ _ _ _ _ _ _ _ _ whole, solve-text .kept .1 .0)
 
-slice-aggregate-argument-rooms-2 : tie.Need-slice-aggregate-argument-rooms-2
-slice-aggregate-argument-rooms-2 c = search needs
+slice-aggregate-write-argument : tie.Need-slice-aggregate-write-argument
+slice-aggregate-write-argument c = sym (part-length _ _ (array-share-prefix-numbers (c .before)))
 
-slice-aggregate-argument-rooms-3 : tie.Need-slice-aggregate-argument-rooms-3
-slice-aggregate-argument-rooms-3 c = search needs
+array-share-prefix-marks : tie.Need-array-share-prefix-marks
+array-share-prefix-marks c =
+    let matched = c .before .before in
+    let solve-text = matched .before .before .before .before .before .before .before .before .solve-text in
+    let whole = rw (matched .reading2 .given .1) at (solve-text .ensures) in
+    omega (arith, few-listed _ _ _ _ _ _ _ _ _ whole, solve-text .kept .1 .1 .0)
 
-slice-aggregate-argument-rooms-4 : tie.Need-slice-aggregate-argument-rooms-4
-slice-aggregate-argument-rooms-4 c = search needs
+slice-aggregate-write-argument-2 : tie.Need-slice-aggregate-write-argument-2
+slice-aggregate-write-argument-2 c = sym (part-length _ _ (array-share-prefix-marks (c .before)))
 
-slice-aggregate-argument-rooms-5 : tie.Need-slice-aggregate-argument-rooms-5
-slice-aggregate-argument-rooms-5 c = search needs
+array-share-prefix-objectors : tie.Need-array-share-prefix-objectors
+array-share-prefix-objectors c =
+    let matched = c .before .before .before in
+    let solve-text = matched .before .before .before .before .before .before .before .before .solve-text in
+    let whole = rw (matched .reading2 .given .1) at (solve-text .ensures) in
+    omega (arith, few-objections _ _ _ _ _ _ _ _ _ whole, solve-text .kept .1 .1 .1 .0)
 
-slice-aggregate-argument-rooms-6 : tie.Need-slice-aggregate-argument-rooms-6
-slice-aggregate-argument-rooms-6 c = search needs
+slice-aggregate-write-argument-3 : tie.Need-slice-aggregate-write-argument-3
+slice-aggregate-write-argument-3 c = sym (part-length _ _ (array-share-prefix-objectors (c .before)))
 
-argument-rooms-requires : tie.Need-argument-rooms-requires
-argument-rooms-requires c κs =
-    let args = c .before .before .before .before .before .before .before .before .before .before .before .before .before .before .before .before .before .before .before .before .before .before .before .before .before .args in
-    let solve-text = c .before .before .before .before .before .before .before .before .before .before .before .before .before .before .before .before .solve-text in
-    let reading2 = c .before .before .before .before .before .before .before .before .reading2 in (
-      record {
-        numbers-room = omega (arith, solve-text .kept .1 .0);
-        marks-room = omega (arith, solve-text .kept .1 .1 .0);
-        objectors-room = omega (arith, solve-text .kept .1 .1 .1 .0);
-        targets-room = omega (arith, solve-text .kept .1 .1 .1 .1 .0);
-      },
-      (
-        (omega (arith, solve-text .kept .1 .1 .1 .1 .1 .0), omega (arith, solve-text .kept .1 .1 .1 .1 .1 .1 .0)),
-        (args .text .now, rw (reading2 .given .1) at (solve-text .ensures)),
-      ),
+array-share-prefix-targets : tie.Need-array-share-prefix-targets
+array-share-prefix-targets c =
+    let matched = c .before .before .before .before in
+    let solve-text = matched .before .before .before .before .before .before .before .before .solve-text in
+    let whole = rw (matched .reading2 .given .1) at (solve-text .ensures) in
+    omega (arith, few-objections _ _ _ _ _ _ _ _ _ whole, solve-text .kept .1 .1 .1 .1 .0)
+
+slice-aggregate-write-argument-4 : tie.Need-slice-aggregate-write-argument-4
+slice-aggregate-write-argument-4 c = sym (part-length _ _ (array-share-prefix-targets (c .before)))
+
+slice-aggregate-write-argument-5 : tie.Need-slice-aggregate-write-argument-5
+slice-aggregate-write-argument-5 c = search needs
+
+slice-aggregate-write-argument-6 : tie.Need-slice-aggregate-write-argument-6
+slice-aggregate-write-argument-6 c = search needs
+
+write-argument-requires : tie.Need-write-argument-requires
+write-argument-requires c κs =
+    let matched = c .before .before .before .before .before .before .before .before in
+    let solve-text = matched .before .before .before .before .before .before .before .before .solve-text in
+    let whole = rw (matched .reading2 .given .1) at (solve-text .ensures) in
+    let kept = solve-text .kept in (
+      whole .0,
+      rooms-ready _ _ _ _ _ _ _ _ _ whole (omega (arith, kept .1 .1 .1 .1 .1 .0))
+          (omega (arith, kept .1 .1 .1 .1 .1 .1 .0)),
     )
 
 returns : tie.Need-returns
@@ -78,10 +105,18 @@ same-length c = search needs
 
 returns-2 : tie.Need-returns-2
 returns-2 c =
-    let args = c .before .before .before .before .before .before .before .before .before .before .before .before .before .before .before .before .before .before .before .before .before .before .before .before .before .before .before .before .args in
-    let solve-text = c .before .before .before .before .before .before .before .before .before .before .before .before .before .before .before .before .before .before .before .solve-text in
-    let reading2 = c .before .before .before .before .before .before .before .before .before .before .before .reading2 in
-    c .before .before .argument-rooms .ensures (args .text .now) (rw (reading2 .given .1) at (solve-text .ensures))
+    let write-argument = c .before .before .write-argument in
+    let matched = c .before .before .before .before .before .before .before .before .before .before .before in
+    let solved = matched .before .before .before .before .before .before .before .before in
+    let args = solved .before .before .before .before .before .before .before .before .before .args in
+    let whole = rw (matched .reading2 .given .1) at (solved .solve-text .ensures) in
+    let kept = solved .solve-text .kept in
+    let line = args .line .now in
+    on-promised (text-apart (args .text .now)) (λ R. TextArgumentRefused R (args .number) line)
+    (λ R. TextArgumentIn R (args .number) line) (whole .0) (whole .1) line (write-argument .result)
+    (write-argument .last .1 .1 .1 .1 .1 .1 .1 .0)
+    (write-argument .ensures (whole .0)
+    (rooms-ready _ _ _ _ _ _ _ _ _ whole (omega (arith, kept .1 .1 .1 .1 .1 .0)) (omega (arith, kept .1 .1 .1 .1 .1 .1 .0))))
 
 pub text-line-spec : {M : Type 1} → statement M
 text-line-spec =
@@ -96,13 +131,17 @@ text-line-spec =
     solve-text-requires
     enum-known-reading
     enum-known-reading-2
-    slice-aggregate-argument-rooms
-    slice-aggregate-argument-rooms-2
-    slice-aggregate-argument-rooms-3
-    slice-aggregate-argument-rooms-4
-    slice-aggregate-argument-rooms-5
-    slice-aggregate-argument-rooms-6
-    argument-rooms-requires
+    array-share-prefix-numbers
+    slice-aggregate-write-argument
+    array-share-prefix-marks
+    slice-aggregate-write-argument-2
+    array-share-prefix-objectors
+    slice-aggregate-write-argument-3
+    array-share-prefix-targets
+    slice-aggregate-write-argument-4
+    slice-aggregate-write-argument-5
+    slice-aggregate-write-argument-6
+    write-argument-requires
     returns
     same-length
     returns-2)

@@ -1,8 +1,15 @@
--- `text_listing` lists what the solver left in the rooms.
+-- `text_listing` lists the beginnings of the rooms that the solver left.
 use mathlib.Core.Logic.{inl}
-use mathlib.Core.Path.{refl}
+use mathlib.Core.Path.{refl, sym}
 use native.Mathlib.Omega.{arith}
 use borrow.Author.Needs.{needs}
+use Rattle.label_solve.proofs.RoomParts.{part-length}
+use Rattle.answer.specs.Answer.{Short}
+use Rattle.promises.specs.ListingCalls.{ListingIn, ListingShort}
+use Rattle.answer.proofs.Inputs.{on-promised}
+use Rattle.promises.proofs.OnText.{text-apart}
+use Rattle.register_solve.proofs.SolvedRooms.{few-listed, few-objections, rooms-ready}
+use Rattle.call_listing.proofs.ListingGiven.{rooms-bounded}
 use Rattle.call_listing.proofs.text_listing.Statement.{statement}
 use Rattle.call_listing.proofs.text_listing.Tie as tie
 
@@ -33,39 +40,62 @@ enum-known-reading c = search needs
 enum-known-reading-2 : tie.Need-enum-known-reading-2
 enum-known-reading-2 c = search needs
 
-slice-aggregate-list-rooms : tie.Need-slice-aggregate-list-rooms
-slice-aggregate-list-rooms c = search needs
+array-share-prefix-numbers : tie.Need-array-share-prefix-numbers
+array-share-prefix-numbers c =
+    let matched = c .before in
+    let solve-text = matched .before .before .before .before .before .before .before .before .solve-text in
+    let whole = rw (matched .reading2 .given .1) at (solve-text .ensures) in
+    omega (arith, few-listed _ _ _ _ _ _ _ _ _ whole, solve-text .kept .1 .0)
 
-slice-aggregate-list-rooms-2 : tie.Need-slice-aggregate-list-rooms-2
-slice-aggregate-list-rooms-2 c = search needs
+slice-aggregate-write-listing : tie.Need-slice-aggregate-write-listing
+slice-aggregate-write-listing c = sym (part-length _ _ (array-share-prefix-numbers (c .before)))
 
-slice-aggregate-list-rooms-3 : tie.Need-slice-aggregate-list-rooms-3
-slice-aggregate-list-rooms-3 c = search needs
+array-share-prefix-marks : tie.Need-array-share-prefix-marks
+array-share-prefix-marks c =
+    let matched = c .before .before in
+    let solve-text = matched .before .before .before .before .before .before .before .before .solve-text in
+    let whole = rw (matched .reading2 .given .1) at (solve-text .ensures) in
+    omega (arith, few-listed _ _ _ _ _ _ _ _ _ whole, solve-text .kept .1 .1 .0)
 
-slice-aggregate-list-rooms-4 : tie.Need-slice-aggregate-list-rooms-4
-slice-aggregate-list-rooms-4 c = search needs
+slice-aggregate-write-listing-2 : tie.Need-slice-aggregate-write-listing-2
+slice-aggregate-write-listing-2 c = sym (part-length _ _ (array-share-prefix-marks (c .before)))
 
-slice-aggregate-list-rooms-5 : tie.Need-slice-aggregate-list-rooms-5
-slice-aggregate-list-rooms-5 c = search needs
+array-share-prefix-objectors : tie.Need-array-share-prefix-objectors
+array-share-prefix-objectors c =
+    let matched = c .before .before .before in
+    let solve-text = matched .before .before .before .before .before .before .before .before .solve-text in
+    let whole = rw (matched .reading2 .given .1) at (solve-text .ensures) in
+    omega (arith, few-objections _ _ _ _ _ _ _ _ _ whole, solve-text .kept .1 .1 .1 .0)
 
-slice-aggregate-list-rooms-6 : tie.Need-slice-aggregate-list-rooms-6
-slice-aggregate-list-rooms-6 c = search needs
+slice-aggregate-write-listing-3 : tie.Need-slice-aggregate-write-listing-3
+slice-aggregate-write-listing-3 c = sym (part-length _ _ (array-share-prefix-objectors (c .before)))
 
-list-rooms-requires : tie.Need-list-rooms-requires
-list-rooms-requires c κs =
-    let args = c .before .before .before .before .before .before .before .before .before .before .before .before .before .before .before .before .before .before .before .before .before .before .before .before .before .args in
-    let solve-text = c .before .before .before .before .before .before .before .before .before .before .before .before .before .before .before .before .solve-text in
-    let reading2 = c .before .before .before .before .before .before .before .before .reading2 in (
-      record {
-        numbers-room = omega (arith, solve-text .kept .1 .0);
-        marks-room = omega (arith, solve-text .kept .1 .1 .0);
-        objectors-room = omega (arith, solve-text .kept .1 .1 .1 .0);
-        targets-room = omega (arith, solve-text .kept .1 .1 .1 .1 .0);
-      },
-      (
-        (omega (arith, solve-text .kept .1 .1 .1 .1 .1 .0), omega (arith, solve-text .kept .1 .1 .1 .1 .1 .1 .0)),
-        (args .text .now, rw (reading2 .given .1) at (solve-text .ensures)),
-      ),
+array-share-prefix-targets : tie.Need-array-share-prefix-targets
+array-share-prefix-targets c =
+    let matched = c .before .before .before .before in
+    let solve-text = matched .before .before .before .before .before .before .before .before .solve-text in
+    let whole = rw (matched .reading2 .given .1) at (solve-text .ensures) in
+    omega (arith, few-objections _ _ _ _ _ _ _ _ _ whole, solve-text .kept .1 .1 .1 .1 .0)
+
+slice-aggregate-write-listing-4 : tie.Need-slice-aggregate-write-listing-4
+slice-aggregate-write-listing-4 c = sym (part-length _ _ (array-share-prefix-targets (c .before)))
+
+slice-aggregate-write-listing-5 : tie.Need-slice-aggregate-write-listing-5
+slice-aggregate-write-listing-5 c = search needs
+
+slice-aggregate-write-listing-6 : tie.Need-slice-aggregate-write-listing-6
+slice-aggregate-write-listing-6 c = search needs
+
+write-listing-requires : tie.Need-write-listing-requires
+write-listing-requires c κs =
+    let matched = c .before .before .before .before .before .before .before .before in
+    let solve-text = matched .before .before .before .before .before .before .before .before .solve-text in
+    let whole = rw (matched .reading2 .given .1) at (solve-text .ensures) in
+    let kept = solve-text .kept in (
+      whole .0,
+      rooms-ready _ _ _ _ _ _ _ _ _ whole (omega (arith, kept .1 .1 .1 .1 .1 .0))
+          (omega (arith, kept .1 .1 .1 .1 .1 .1 .0)),
+      rooms-bounded _ _ _ _ _ _ _ _ _ whole,
     )
 
 returns : tie.Need-returns
@@ -78,10 +108,18 @@ same-length c = search needs
 
 returns-2 : tie.Need-returns-2
 returns-2 c =
-    let args = c .before .before .before .before .before .before .before .before .before .before .before .before .before .before .before .before .before .before .before .before .before .before .before .before .before .before .before .before .args in
-    let solve-text = c .before .before .before .before .before .before .before .before .before .before .before .before .before .before .before .before .before .before .before .solve-text in
-    let reading2 = c .before .before .before .before .before .before .before .before .before .before .before .reading2 in
-    c .before .before .list-rooms .ensures (args .text .now) (rw (reading2 .given .1) at (solve-text .ensures))
+    let write-listing = c .before .before .write-listing in
+    let matched = c .before .before .before .before .before .before .before .before .before .before .before in
+    let solved = matched .before .before .before .before .before .before .before .before in
+    let args = solved .before .before .before .before .before .before .before .before .before .args in
+    let whole = rw (matched .reading2 .given .1) at (solved .solve-text .ensures) in
+    let kept = solved .solve-text .kept in
+    let room = args .room .now in
+    on-promised (text-apart (args .text .now)) (λ R. Short (ListingShort room R)) (λ R. ListingIn R room) (whole .0)
+    (whole .1) room (write-listing .result) (write-listing .last .1 .1 .1 .1 .1 .1 .0)
+    (write-listing .ensures (whole .0)
+    (rooms-ready _ _ _ _ _ _ _ _ _ whole (omega (arith, kept .1 .1 .1 .1 .1 .0)) (omega (arith, kept .1 .1 .1 .1 .1 .1 .0)))
+    (rooms-bounded _ _ _ _ _ _ _ _ _ whole))
 
 pub text-listing-spec : {M : Type 1} → statement M
 text-listing-spec =
@@ -96,13 +134,17 @@ text-listing-spec =
     solve-text-requires
     enum-known-reading
     enum-known-reading-2
-    slice-aggregate-list-rooms
-    slice-aggregate-list-rooms-2
-    slice-aggregate-list-rooms-3
-    slice-aggregate-list-rooms-4
-    slice-aggregate-list-rooms-5
-    slice-aggregate-list-rooms-6
-    list-rooms-requires
+    array-share-prefix-numbers
+    slice-aggregate-write-listing
+    array-share-prefix-marks
+    slice-aggregate-write-listing-2
+    array-share-prefix-objectors
+    slice-aggregate-write-listing-3
+    array-share-prefix-targets
+    slice-aggregate-write-listing-4
+    slice-aggregate-write-listing-5
+    slice-aggregate-write-listing-6
+    write-listing-requires
     returns
     same-length
     returns-2)

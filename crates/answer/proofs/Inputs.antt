@@ -1,6 +1,6 @@
--- Laws of promises on an input, whatever it is and whatever is asked of it, where accepting and refusing are apart: what is refused
--- is one, the answer is one, a later refusal is given exactly when it is due, and what is promised of what the input makes is
--- promised of the input.
+-- Laws of promises on an input, whatever it is and whatever is asked of it, where accepting and refusing are apart: what is
+-- refused is one, the answer is one, a later refusal is given exactly when it is due, and what is promised of what the input
+-- makes is promised of the input.
 use mathlib.Core.Logic.{inl, inr, ⊎-elim, _↔_}
 use mathlib.Core.Path.{subst, _≡_}
 use Prim.Native.Nat.{ℕ, _≤_, _<_}
@@ -9,7 +9,8 @@ use Rattle.answer.specs.declared.Refusal.the-variants.{Text, Lists, Room
 use Rattle.answer.specs.Answer.{RefusedOn, GivenOn, OnInput, Promised, Asks}
 use Rattle.answer.specs.declared.Answer.{Answer}
 use Rattle.answer.specs.declared.Answer.the-variants.{Refused, Given}
-use Rattle.answer.proofs.Promises.{promised-unique, through, refused-exactly, Exactly, asks-14, asks-15, asks-10, asks-once}
+use Rattle.answer.proofs.Promises.{promised-unique, through, refused-exactly, Exactly, asks-once}
+use Rattle.answer.proofs.Promises.{asks-14, asks-15, asks-10}
 
 -- A refusal of what is asked, and none that an input has by itself.
 abbrev pub Later : Refusal → Type 0

@@ -16,8 +16,8 @@ abbrev pub Promised : {Rooms : Type 0} → (refuses : Refusal → Type 0) → (g
 Promised refuses gives rooms (Refused r) after = refuses r × (after ≡ rooms)
 Promised refuses gives rooms (Given n) after = gives n after
 
--- What every call on an input promises. The input is accepted as what it makes (a text as a register), or it is refused, and those
--- refusals come first. Of what it makes, `later` says what is refused then, and `gives` what the answer is.
+-- What every call on an input promises. The input is accepted as what it makes (a text as a register), or it is refused, and
+-- those refusals come first. Of what it makes, `later` says what is refused then, and `gives` what the answer is.
 abbrev pub RefusedOn : {Made : Type 0} → (accepts : Made → Type 0) → (refuses : Refusal → Type 0)
     → (later : Made → Refusal → Type 0) → Refusal → Type 0
 RefusedOn {Made} accepts refuses later r = refuses r ⊎ ((m : Made) × accepts m × later m r)

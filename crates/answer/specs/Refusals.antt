@@ -1,5 +1,5 @@
--- The refusal numbers of 01 and of later requests, and the places. Those of a text and of lists are said with what they are refused
--- for; the rows here are of what is refused once they are accepted, with the words of the table.
+-- The refusal numbers of 01 and of later requests, and the places. Those of a text and of lists are said with what they are
+-- refused for; the rows here are of what is refused once they are accepted, with the words of the table.
 use Prim.Native.Nat.{ℕ}
 use Rattle.register.specs.TextFaults.{textFaultNumber, textFaultPlace}
 use Rattle.lists.specs.ListsFaults.{listsFaultNumber, listsFaultPlace}

@@ -1,9 +1,9 @@
 // The line of argument of a statement of a register that is labelled: by recursion along objectors, with the length as the
 // falling number. Labels and lengths are left to `label_solve`.
 //
-// Each step looks at the objectors of one statement only, all of them, since the earliest listed need not come first; no statement
-// comes twice, so a line takes time linear in statements and objections. The compiled recursion is as deep as the line is long, at
-// about 200 bytes a step: up to 200 KiB of stack, more than all else that a call takes; the header says so.
+// Each step looks at the objectors of one statement only, all of them, since the earliest listed need not come first; no
+// statement comes twice, so a line takes time linear in statements and objections. The compiled recursion is as deep as the
+// line is long, at about 200 bytes a step: up to 200 KiB of stack, more than all else that a call takes; the header says so.
 use pair_chain::chain;
 use pair_chain::place;
 use pair_chain::wide;

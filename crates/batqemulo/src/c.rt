@@ -189,7 +189,8 @@ pub extern "C" fn batqemulo_mend(
     report: &mut [u8],
     report_written: &mut u32,
 ) -> CAnswer
-    ensures { λ c. ⌜ InC (λ a. TextMend (now (text .entry)) (now (room .entry), now (report .entry), now («report_written» .entry)) a
+    ensures { λ c. ⌜ InC (λ a. TextMend (now (text .entry))
+        (now (room .entry), now (report .entry), now («report_written» .entry)) a
         (now (room .exit), now (report .exit), now («report_written» .exit))) c ⌝ }
 {
     in_c(call_mend::text_mend(text, room, report, report_written))

@@ -12,7 +12,8 @@ use Rattle.answer.specs.Answer.{Begins}
 module _ (marks objectors targets labels lengths labels′ lengths′ : List ℕ)
     (s : Solved marks objectors targets labels lengths labels′ lengths′) where
   pub labels-begin : length marks ≤ length labels → length labels′ ≡ length labels
-      → Begins (length marks) (λ x e. (a : Account) × OfStatement (bookOf marks objectors targets) x a × (e ≡ accountNumber a)) labels
+      → Begins (length marks) (λ x e. (a : Account) × OfStatement (bookOf marks objectors targets) x a × (e ≡ accountNumber a))
+      labels
       labels′
   unfolding bookOf
   labels-begin h e = record {
@@ -23,7 +24,8 @@ module _ (marks objectors targets labels lengths labels′ lengths′ : List ℕ
   }
 
   pub lengths-begin : length marks ≤ length lengths → length lengths′ ≡ length lengths
-      → Begins (length marks) (λ x e. (a : Account) × OfStatement (bookOf marks objectors targets) x a × (e ≡ accountLength a)) lengths
+      → Begins (length marks) (λ x e. (a : Account) × OfStatement (bookOf marks objectors targets) x a × (e ≡ accountLength a))
+      lengths
       lengths′
   unfolding bookOf
   lengths-begin h e = record {

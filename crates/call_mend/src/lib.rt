@@ -1,9 +1,9 @@
-// The public call that mends a text: the mended register and the report are written into lent rooms. What becomes of the lines is
-// left to `mend_text`, and the writing to `register_write` and `mend_report`.
+// The public call that mends a text: the mended register and the report are written into lent rooms. What becomes of the lines
+// is left to `mend_text`, and the writing to `register_write` and `mend_report`.
 //
-// The fates of all lines are kept meanwhile, one byte for each of up to 65,535: so repeats are searched once, the report is made of
-// the fates alone, and both sizes are known before anything is written. Packed, or found again by a third pass over the text,
-// they would save these bytes of stack and cost the search again.
+// The fates of all lines are kept meanwhile, one byte for each of up to 65,535: so repeats are searched once, the report is
+// made of the fates alone, and both sizes are known before anything is written. Packed, or found again by a third pass over the
+// text, they would save these bytes of stack and cost the search again.
 use answer::Answer;
 use answer::Refusal;
 use register::TextFault;

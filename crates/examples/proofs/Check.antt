@@ -418,13 +418,15 @@ pass-is (r ∷ rs) t = let (p, q) = both (passes r) (pass rs) t in (passes-is r 
 -- Every example that 01 marks P holds.
 pub table-holds : Every Says table
 unfolding table ascii extend fields value add guess registerOf same issued numbered differ known distinct ordered accepted
-    verdictAt kindAt statementTold objectionTold listingOf kept added finishing passes pass any all bookOf standsWithin fallsWithin verdict verdictBy
+    verdictAt kindAt statementTold objectionTold listingOf kept added finishing passes pass any all bookOf standsWithin
+    fallsWithin verdict verdictBy
     numberTest numberBytes decimal decimalIn bytes placeOf numbersRow statementRow statementRows objectionRow objectionRows
 table-holds = pass-is table tt
 
 pub reasons-hold : Every Says reasons
 unfolding reasons ascii extend fields value add guess registerOf same issued numbered differ known distinct ordered accepted
-    verdictAt kindAt statementTold objectionTold inside reasonOf named passes pass any all bookOf standsWithin fallsWithin verdict verdictBy
+    verdictAt kindAt statementTold objectionTold inside reasonOf named passes pass any all bookOf standsWithin fallsWithin verdict
+    verdictBy
     numberTest numberBytes decimal decimalIn bytes placeOf statementRow objectionRow objectionRows keep counts belonging reaching
 reasons-hold = pass-is reasons tt
 

@@ -51,33 +51,47 @@ table =
     ∷ lists "S\t1\tU\n" "REGISTER\t1\t0\n1\topen\t-\n"
     ∷ lists "S\t1\tR\nO\t1\t1\n" "REGISTER\t1\t1\n1\topen\t-\n1\t1\tstandoff\t-\n"
     -- "two that object to each other: both open"; "a circle of three: all open"
-    ∷ lists "S\t1\tR\nS\t2\tR\nO\t1\t2\nO\t2\t1\n" "REGISTER\t2\t2\n1\topen\t-\n2\topen\t-\n1\t2\tstandoff\t-\n2\t1\tstandoff\t-\n"
-    ∷ lists "S\t1\tR\nS\t2\tR\nS\t3\tR\nO\t1\t2\nO\t2\t3\nO\t3\t1\n" "REGISTER\t3\t3\n1\topen\t-\n2\topen\t-\n3\topen\t-\n1\t2\tstandoff\t-\n2\t3\tstandoff\t-\n3\t1\tstandoff\t-\n"
+    ∷ lists "S\t1\tR\nS\t2\tR\nO\t1\t2\nO\t2\t1\n"
+    "REGISTER\t2\t2\n1\topen\t-\n2\topen\t-\n1\t2\tstandoff\t-\n2\t1\tstandoff\t-\n"
+    ∷ lists "S\t1\tR\nS\t2\tR\nS\t3\tR\nO\t1\t2\nO\t2\t3\nO\t3\t1\n"
+    "REGISTER\t3\t3\n1\topen\t-\n2\topen\t-\n3\topen\t-\n1\t2\tstandoff\t-\n2\t3\tstandoff\t-\n3\t1\tstandoff\t-\n"
     -- "the listing above"
-    ∷ lists "S\t101\tR\nS\t102\tR\nS\t103\tR\nS\t104\tR\nO\t102\t101\nO\t101\t102\nO\t103\t102\nO\t104\t103\n" "REGISTER\t4\t4\n101\topen\t-\n102\topen\t-\n103\tfalls\t1\n104\tstands\t0\n102\t101\tstandoff\t-\n101\t102\tstandoff\t-\n103\t102\tidle\t-\n104\t103\tfelling\t1\n"
+    ∷ lists "S\t101\tR\nS\t102\tR\nS\t103\tR\nS\t104\tR\nO\t102\t101\nO\t101\t102\nO\t103\t102\nO\t104\t103\n"
+    "REGISTER\t4\t4\n101\topen\t-\n102\topen\t-\n103\tfalls\t1\n104\tstands\t0\n102\t101\tstandoff\t-\n101\t102\tstandoff\t-\n103\t102\tidle\t-\n104\t103\tfelling\t1\n"
     -- "1 unread, 2 read objects to 1, 1 objects to 3, 3 read: 2 stands 0, 1 falls 1, 3 stands 2"
-    ∷ lists "S\t1\tU\nS\t2\tR\nS\t3\tR\nO\t2\t1\nO\t1\t3\n" "REGISTER\t3\t2\n1\tfalls\t1\n2\tstands\t0\n3\tstands\t2\n2\t1\tfelling\t1\n1\t3\tdelaying\t2\n"
+    ∷ lists "S\t1\tU\nS\t2\tR\nS\t3\tR\nO\t2\t1\nO\t1\t3\n"
+    "REGISTER\t3\t2\n1\tfalls\t1\n2\tstands\t0\n3\tstands\t2\n2\t1\tfelling\t1\n1\t3\tdelaying\t2\n"
     -- "1 unread, 1 objects to 2, 2 read: both open"
     ∷ lists "S\t1\tU\nS\t2\tR\nO\t1\t2\n" "REGISTER\t2\t1\n1\topen\t-\n2\topen\t-\n1\t2\tstandoff\t-\n"
     -- "4 against 3, 3 against 2, 2 against 1, with 1 unread and the rest read: 4 stands 0, 3 falls 1, 2 stands 2, 1 falls 3"
-    ∷ lists "S\t1\tU\nS\t2\tR\nS\t3\tR\nS\t4\tR\nO\t4\t3\nO\t3\t2\nO\t2\t1\n" "REGISTER\t4\t3\n1\tfalls\t3\n2\tstands\t2\n3\tfalls\t1\n4\tstands\t0\n4\t3\tfelling\t1\n3\t2\tdelaying\t2\n2\t1\tfelling\t3\n"
+    ∷ lists "S\t1\tU\nS\t2\tR\nS\t3\tR\nS\t4\tR\nO\t4\t3\nO\t3\t2\nO\t2\t1\n"
+    "REGISTER\t4\t3\n1\tfalls\t3\n2\tstands\t2\n3\tfalls\t1\n4\tstands\t0\n4\t3\tfelling\t1\n3\t2\tdelaying\t2\n2\t1\tfelling\t3\n"
     -- "a finish adds 4 against 1: 1 falls 1"
-    ∷ finishes "S\t1\tU\nS\t2\tR\nS\t3\tR\nS\t4\tR\nO\t4\t3\nO\t3\t2\nO\t2\t1\n" "S\t1\tR\nS\t2\tR\nS\t3\tR\nS\t4\tR\nO\t4\t3\nO\t3\t2\nO\t2\t1\nO\t4\t1\n" "REGISTER\t4\t4\n1\tfalls\t1\n2\tstands\t2\n3\tfalls\t1\n4\tstands\t0\n4\t3\tfelling\t1\n3\t2\tdelaying\t2\n2\t1\tfelling\t3\n4\t1\tfelling\t1\n"
+    ∷ finishes "S\t1\tU\nS\t2\tR\nS\t3\tR\nS\t4\tR\nO\t4\t3\nO\t3\t2\nO\t2\t1\n"
+    "S\t1\tR\nS\t2\tR\nS\t3\tR\nS\t4\tR\nO\t4\t3\nO\t3\t2\nO\t2\t1\nO\t4\t1\n"
+    "REGISTER\t4\t4\n1\tfalls\t1\n2\tstands\t2\n3\tfalls\t1\n4\tstands\t0\n4\t3\tfelling\t1\n3\t2\tdelaying\t2\n2\t1\tfelling\t3\n4\t1\tfelling\t1\n"
     -- "all read; 5 against 6; 6 against 7; 7 against 6: 5 stands 0, 6 falls 1, 7 stands 2; 7 against 6 is felling, length 3"
-    ∷ lists "S\t5\tR\nS\t6\tR\nS\t7\tR\nO\t5\t6\nO\t6\t7\nO\t7\t6\n" "REGISTER\t3\t3\n5\tstands\t0\n6\tfalls\t1\n7\tstands\t2\n5\t6\tfelling\t1\n6\t7\tdelaying\t2\n7\t6\tfelling\t3\n"
+    ∷ lists "S\t5\tR\nS\t6\tR\nS\t7\tR\nO\t5\t6\nO\t6\t7\nO\t7\t6\n"
+    "REGISTER\t3\t3\n5\tstands\t0\n6\tfalls\t1\n7\tstands\t2\n5\t6\tfelling\t1\n6\t7\tdelaying\t2\n7\t6\tfelling\t3\n"
     ∷ []
 
 -- What too narrow and too wide reasons would get wrong. In 5, 6, 7 the reasons for 6 and 7 each have all three objections, and 5
 -- has none. In the listing of 01, 103 against 102 is in no reason.
 unfoldable pub reasons : List Row
 reasons =
-    explains "S\t5\tR\nS\t6\tR\nS\t7\tR\nO\t5\t6\nO\t6\t7\nO\t7\t6\n" 6 "6\tfalls\t1\n5\t6\tfelling\t1\n6\t7\tdelaying\t2\n7\t6\tfelling\t3\n"
-    ∷ explains "S\t101\tR\nS\t102\tR\nS\t103\tR\nS\t104\tR\nO\t102\t101\nO\t101\t102\nO\t103\t102\nO\t104\t103\n" 102 "102\topen\t-\n102\t101\tstandoff\t-\n101\t102\tstandoff\t-\n"
-    ∷ explains "S\t5\tR\nS\t6\tR\nS\t7\tR\nO\t5\t6\nO\t6\t7\nO\t7\t6\n" 7 "7\tstands\t2\n5\t6\tfelling\t1\n6\t7\tdelaying\t2\n7\t6\tfelling\t3\n"
+    explains "S\t5\tR\nS\t6\tR\nS\t7\tR\nO\t5\t6\nO\t6\t7\nO\t7\t6\n" 6
+    "6\tfalls\t1\n5\t6\tfelling\t1\n6\t7\tdelaying\t2\n7\t6\tfelling\t3\n"
+    ∷ explains "S\t101\tR\nS\t102\tR\nS\t103\tR\nS\t104\tR\nO\t102\t101\nO\t101\t102\nO\t103\t102\nO\t104\t103\n" 102
+    "102\topen\t-\n102\t101\tstandoff\t-\n101\t102\tstandoff\t-\n"
+    ∷ explains "S\t5\tR\nS\t6\tR\nS\t7\tR\nO\t5\t6\nO\t6\t7\nO\t7\t6\n" 7
+    "7\tstands\t2\n5\t6\tfelling\t1\n6\t7\tdelaying\t2\n7\t6\tfelling\t3\n"
     ∷ explains "S\t5\tR\nS\t6\tR\nS\t7\tR\nO\t5\t6\nO\t6\t7\nO\t7\t6\n" 5 "5\tstands\t0\n"
-    ∷ explains "S\t101\tR\nS\t102\tR\nS\t103\tR\nS\t104\tR\nO\t102\t101\nO\t101\t102\nO\t103\t102\nO\t104\t103\n" 101 "101\topen\t-\n102\t101\tstandoff\t-\n101\t102\tstandoff\t-\n"
-    ∷ explains "S\t101\tR\nS\t102\tR\nS\t103\tR\nS\t104\tR\nO\t102\t101\nO\t101\t102\nO\t103\t102\nO\t104\t103\n" 103 "103\tfalls\t1\n104\t103\tfelling\t1\n"
-    ∷ explains "S\t101\tR\nS\t102\tR\nS\t103\tR\nS\t104\tR\nO\t102\t101\nO\t101\t102\nO\t103\t102\nO\t104\t103\n" 104 "104\tstands\t0\n"
+    ∷ explains "S\t101\tR\nS\t102\tR\nS\t103\tR\nS\t104\tR\nO\t102\t101\nO\t101\t102\nO\t103\t102\nO\t104\t103\n" 101
+    "101\topen\t-\n102\t101\tstandoff\t-\n101\t102\tstandoff\t-\n"
+    ∷ explains "S\t101\tR\nS\t102\tR\nS\t103\tR\nS\t104\tR\nO\t102\t101\nO\t101\t102\nO\t103\t102\nO\t104\t103\n" 103
+    "103\tfalls\t1\n104\t103\tfelling\t1\n"
+    ∷ explains "S\t101\tR\nS\t102\tR\nS\t103\tR\nS\t104\tR\nO\t102\t101\nO\t101\t102\nO\t103\t102\nO\t104\t103\n" 104
+    "104\tstands\t0\n"
     ∷ []
 
 -- Two bits each, the first lowest: 96 is 0 + 4 · 0 + 16 · 2 + 64 · 1, the codes of open, open, falls, stands in the listing of
@@ -85,6 +99,7 @@ reasons =
 unfoldable pub sheets : List Row
 sheets =
     packs "" [] (0 ∷ (0 ∷ (0 ∷ [])))
-    ∷ packs "S\t101\tR\nS\t102\tR\nS\t103\tR\nS\t104\tR\nO\t102\t101\nO\t101\t102\nO\t103\t102\nO\t104\t103\n" (96 ∷ []) (2 ∷ (1 ∷ (1 ∷ [])))
+    ∷ packs "S\t101\tR\nS\t102\tR\nS\t103\tR\nS\t104\tR\nO\t102\t101\nO\t101\t102\nO\t103\t102\nO\t104\t103\n" (96 ∷ [])
+    (2 ∷ (1 ∷ (1 ∷ [])))
     ∷ packs "S\t1\tR\nS\t2\tR\nS\t3\tU\nS\t4\tR\nS\t5\tR\nO\t1\t5\n" (69 ∷ (2 ∷ [])) (1 ∷ (3 ∷ (1 ∷ [])))
     ∷ []

@@ -2,9 +2,10 @@
 // asked through the other with one turn less, along the statement's own objectors. What is told of the answers is left to
 // `exercise_ask`.
 //
-// Each answer is kept in a table for its question, 7 · 1,024 bytes: at turns · 1,024 + x stands 0 unknown, 1 no, 2 yes. So a question
-// is answered once for a statement and a number of turns. Without tables one question on 90 statements and 3,960 objections
-// takes 7.6 thousand million calls. What is found without a walk (nothing falls within 0, an unread one does not stand) is not kept.
+// Each answer is kept in a table for its question, 7 · 1,024 bytes: at turns · 1,024 + x stands 0 unknown, 1 no, 2 yes. So a
+// question is answered once for a statement and a number of turns. Without tables one question on 90 statements and 3,960
+// objections takes 7.6 thousand million calls. What is found without a walk (nothing falls within 0, an unread one does not
+// stand) is not kept.
 use pair_chain::place;
 use pair_chain::wide;
 ghost use mathlib.Core.Path.{_≡_};

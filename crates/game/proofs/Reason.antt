@@ -62,7 +62,8 @@ module _ (B : Book) where
       of-kind : Objects B y x → (k : Option Kind) → kindOf (verdict B x) (verdict B y) ≡ k → T (counts k) → Belongs B y x
       of-kind o none e c = absurd c
       of-kind o (some κ) e c =
-          belongs-by B y x (verdict B x) (verdict B y) κ o (verdict-means B x l) (verdict-means B y (o .0)) e (counts-not-idle κ c)
+          belongs-by B y x (verdict B x) (verdict B y) κ o (verdict-means B x l) (verdict-means B y (o .0)) e
+          (counts-not-idle κ c)
 
       to : T ((ltb y (B .size) && B .objects y x) && counts (kindOf (verdict B x) (verdict B y))) → Belongs B y x
       to t =

@@ -1,5 +1,5 @@
--- What is told of a statement and of an objection, in numbers and in words. It is said here once: labels and lengths, kinds, listing,
--- reason and sheet go by it. How words and lengths are put into rows is left to `listing`.
+-- What is told of a statement and of an objection, in numbers and in words. It is said here once: labels and lengths, kinds,
+-- listing, reason and sheet go by it. How words and lengths are put into rows is left to `listing`.
 use mathlib.Core.List.{List, [], _∷_}
 use mathlib.Core.Option.{Option, some, none}
 use mathlib.Core.Path.{_≡_}

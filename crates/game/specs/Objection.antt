@@ -1,5 +1,6 @@
 -- The kinds of objection, "fixed by the label of the target, then of the objector" (000, Figure 2), and their
--- lengths. What is told of them, `Account` says. The kind is the enum of the program itself: a felling or delaying one holds its length.
+-- lengths. What is told of them, `Account` says. The kind is the enum of the program itself: a felling or delaying one holds its
+-- length.
 use mathlib.Core.Option.{Option, some, none}
 use mathlib.Core.Path.{_≡_}
 use Prim.Native.Nat.{suc, ℕ}

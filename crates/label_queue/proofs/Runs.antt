@@ -80,7 +80,8 @@ module _ (marks objectors targets : List ℕ) (reg : Handed marks objectors targ
             λ e he. ⊎-elim (λ p. ⊎-elim (λ a. new-fresh e he a) (λ a. r .fresh e he (inl a)) (pending-back queue t x hq p))
             (λ w. r .fresh e he (inr w));
         owed =
-            λ e he d l. ⊎-elim (λ a. inl (pend e (a .0))) (λ a. more e (r .owed e he d (sym (a .0) ∙ l))) (bk (getD objectors e 0));
+            λ e he d l. ⊎-elim (λ a. inl (pend e (a .0))) (λ a. more e (r .owed e he d (sym (a .0) ∙ l)))
+            (bk (getD objectors e 0));
         fells =
             λ e he l. ⊎-elim (λ a. inr (inl (pend e (a .0)))) (λ a. ⊎-elim (λ f. inl (keep e he (sym (a .0) ∙ l) f))
             (λ o. inr (more e o)) (r .fells e he (sym (a .0) ∙ l))) (bk (getD objectors e 0));
@@ -136,7 +137,8 @@ module _ (marks objectors targets : List ℕ) (reg : Handed marks objectors targ
           more e = ⊎-elim (λ p. inl (pending-more queue t x hq p)) (λ w. inr w)
 
           keep : (e : ℕ) → e < length objectors → getD labels (getD objectors e 0) 0 ≡ 1
-              → Fells marks objectors targets labels lengths e → Fells marks objectors targets (set labels x v) (set lengths x k) e
+              → Fells marks objectors targets labels lengths e → Fells marks objectors targets (set labels x v) (set lengths x k)
+              e
           keep e he l f =
               let a = kp (getD objectors e 0) (omega arith) in
               let b = kp (getD targets e 0) (omega (arith, f .0)) in

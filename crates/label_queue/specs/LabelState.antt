@@ -19,7 +19,8 @@ module _ (marks objectors targets labels lengths : List ℕ) where
         → (getD labels (getD objectors e 0) 0 ≡ 2) × (getD lengths (getD objectors e 0) 0 + 1 ≤ getD lengths (getD targets e 0) 0)
     pub tight : (x : ℕ) → x < length marks → getD labels x 0 ≡ 1
         → (getD lengths x 0 ≡ 0)
-        ⊎ ((e : ℕ) × (e < length objectors) × (getD targets e 0 ≡ x) × (getD lengths (getD objectors e 0) 0 + 1 ≡ getD lengths x 0))
+        ⊎ ((e : ℕ) × (e < length objectors) × (getD targets e 0 ≡ x) ×
+        (getD lengths (getD objectors e 0) 0 + 1 ≡ getD lengths x 0))
 
   -- nothing is left to label
   pub record Full : Type 0 where

@@ -26,7 +26,8 @@ pub statement-pieces : (number : ℕ) (a : Account) → ((numberBytes number ++ 
 unfolding statementRow
 statement-pieces number a = simp append-assoc
 
-pub objection-pieces : (y x : ℕ) (a : Account) → ((((numberBytes y ++ (9 ∷ [])) ++ numberBytes x) ++ (9 ∷ [])) ++ accountFields a) ++
+pub objection-pieces : (y x : ℕ) (a : Account) → ((((numberBytes y ++ (9 ∷ [])) ++ numberBytes x) ++ (9 ∷ [])) ++ accountFields a)
+    ++
     (10 ∷ []) ≡ objectionRow y x a
 unfolding objectionRow
 objection-pieces y x a = simp append-assoc

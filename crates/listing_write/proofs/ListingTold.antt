@@ -25,10 +25,12 @@ module _ (R : Register) (nums marks objectors targets labels lengths : List ℕ)
   abbrev objection : ℕ → Account
   objection = objectionToldAt (objectorsOf R) (targetsOf R) labels lengths
 
-  statements-same : statementPart (numbers R) labels lengths ≡ statementRows (R .statements) (upTo (length (R .statements)) statement)
+  statements-same : statementPart (numbers R) labels lengths ≡ statementRows (R .statements)
+      (upTo (length (R .statements)) statement)
   unfolding statementPart
   statements-same =
-      ap (λ n. rowsTo n (statementRowAt (numbers R) labels lengths)) (numbers-counted R) ∙ sym (statement-rows (R .statements) statement)
+      ap (λ n. rowsTo n (statementRowAt (numbers R) labels lengths)) (numbers-counted R) ∙ sym
+      (statement-rows (R .statements) statement)
 
   objections-same : objectionPart (numbers R) (objectorsOf R) (targetsOf R) labels lengths ≡ objectionRows (R .objections)
       (upTo (length (R .objections)) objection)
@@ -41,7 +43,8 @@ module _ (R : Register) (nums marks objectors targets labels lengths : List ℕ)
       (own-row R nums marks objectors targets labels lengths ready)
       ∙ sym (objection-rows (R .objections) objection)
 
-  whole-same : whole (numbers R) (objectorsOf R) (targetsOf R) labels lengths ≡ listing R (upTo (length (R .statements)) statement)
+  whole-same : whole (numbers R) (objectorsOf R) (targetsOf R) labels lengths ≡ listing R
+      (upTo (length (R .statements)) statement)
       (upTo (length (R .objections)) objection)
   unfolding whole
   whole-same =

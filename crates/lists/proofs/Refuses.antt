@@ -89,27 +89,28 @@ row-passes (yes a) r rest n = absurd (n a)
 row-passes (no f) r rest n = refl
 
 module _ (Fault : ℕ → Type 0) (n : ℕ) (bound : (k : ℕ) → Fault k → k < n)
-    (found : ((k : ℕ) × First Fault k) ⊎ ((k : ℕ) → k < n → ¬ Fault k)) (refusal : ℕ → ListsFault) (rest : Option ListsFault) where
-  entries : Option ListsFault
-  entries = elim found [ inl p ↦ some (refusal (p .0)) | inr f ↦ rest ]
+    (found : ((k : ℕ) × First Fault k) ⊎ ((k : ℕ) → k < n → ¬ Fault k)) (refusal : ℕ → ListsFault) (rest : Option ListsFault)
+  where
+    entries : Option ListsFault
+    entries = elim found [ inl p ↦ some (refusal (p .0)) | inr f ↦ rest ]
 
-  entries-first : (k : ℕ) → First Fault k → entries ≡ some (refusal k)
-  unfolding entries
-  entries-first k p = go found
-    where
-      go : (w : ((k : ℕ) × First Fault k) ⊎ ((k : ℕ) → k < n → ¬ Fault k))
-          → elim w as (λ _. Option ListsFault) [ inl p ↦ some (refusal (p .0)) | inr f ↦ rest ] ≡ some (refusal k)
-      go (inl q) = ap (λ j. some (refusal j)) (first-once Fault (q .0) k (q .1) p)
-      go (inr f) = absurd (f k (bound k (p .0)) (p .0))
+    entries-first : (k : ℕ) → First Fault k → entries ≡ some (refusal k)
+    unfolding entries
+    entries-first k p = go found
+      where
+        go : (w : ((k : ℕ) × First Fault k) ⊎ ((k : ℕ) → k < n → ¬ Fault k))
+            → elim w as (λ _. Option ListsFault) [ inl p ↦ some (refusal (p .0)) | inr f ↦ rest ] ≡ some (refusal k)
+        go (inl q) = ap (λ j. some (refusal j)) (first-once Fault (q .0) k (q .1) p)
+        go (inr f) = absurd (f k (bound k (p .0)) (p .0))
 
-  entries-pass : ((k : ℕ) → ¬ Fault k) → entries ≡ rest
-  unfolding entries
-  entries-pass f = go found
-    where
-      go : (w : ((k : ℕ) × First Fault k) ⊎ ((k : ℕ) → k < n → ¬ Fault k))
-          → elim w as (λ _. Option ListsFault) [ inl p ↦ some (refusal (p .0)) | inr f ↦ rest ] ≡ rest
-      go (inl q) = absurd (f (q .0) (q .1 .0))
-      go (inr g) = refl
+    entries-pass : ((k : ℕ) → ¬ Fault k) → entries ≡ rest
+    unfolding entries
+    entries-pass f = go found
+      where
+        go : (w : ((k : ℕ) × First Fault k) ⊎ ((k : ℕ) → k < n → ¬ Fault k))
+            → elim w as (λ _. Option ListsFault) [ inl p ↦ some (refusal (p .0)) | inr f ↦ rest ] ≡ rest
+        go (inl q) = absurd (f (q .0) (q .1 .0))
+        go (inr g) = refl
 
 module _ (marks objectors targets : List ℕ) where
   mark? : (k : ℕ) → Dec (BadMark marks k)

@@ -87,7 +87,8 @@ objection-lined S late R o ls f on = go (objection-case R o)
       stated = on .stated ∙ ap (λ u. S ++ u) none;
       objected =
           on .objected ∙ ap (λ u. more-objections (u .1) (on .objections)) e
-          ∙ ap (λ u. record { statements = R .statements; objections = u }) (append-assoc (R .objections) (o ∷ []) (on .objections));
+          ∙ ap (λ u. record { statements = R .statements; objections = u })
+          (append-assoc (R .objections) (o ∷ []) (on .objections));
       unlate = λ h. refl;
     }
 
@@ -103,7 +104,8 @@ lined [] S late R f = record {
   unlate = λ h. refl;
 }
 lined (good (Statement st) ∷ ls) S late R f =
-    statement-lined S late R st ls (f 0 (omega arith)) (lined ls (settleStatement S st .1) late R (λ k h. f (suc k) (omega arith)))
+    statement-lined S late R st ls (f 0 (omega arith))
+    (lined ls (settleStatement S st .1) late R (λ k h. f (suc k) (omega arith)))
 lined (good (Objection o) ∷ ls) S late R f =
     objection-lined S late R o ls (f 0 (omega arith)) (lined ls S true (settleObjection R o .1) (λ k h. f (suc k) (omega arith)))
 lined (spoiled ∷ ls) S late R f = absurd (omega (arith, f 0 (omega arith)))
@@ -190,7 +192,8 @@ unfolding fatesFrom
 lines-kept [] S B R v w k h = objections-kept B S false R w k h
 lines-kept (st ∷ A) S B R v w zero h = ap (λ u. movedIf false (u .0)) (keeps-statement S st A v)
 lines-kept (st ∷ A) S B R v w (suc k) h =
-    lines-kept A (settleStatement S st .1) B R (subst (λ T. Valid (bare (T ++ A))) (sym (ap (λ u. u .1) (keeps-statement S st A v)))
+    lines-kept A (settleStatement S st .1) B R
+    (subst (λ T. Valid (bare (T ++ A))) (sym (ap (λ u. u .1) (keeps-statement S st A v)))
     (subst (λ u. Valid (bare u)) (sym (append-assoc S (st ∷ []) A)) v)) w k (le-of-suc-le-suc h)
 
 statements-are : (A : List StatementLine) (S : List StatementLine) (B : List ObjectionLine) → Valid (bare (S ++ A))
@@ -199,7 +202,8 @@ unfolding withStatements
 statements-are [] S [] v = sym (append-nil S)
 statements-are [] S (o ∷ B) v = statements-are [] S B v
 statements-are (st ∷ A) S B v =
-    statements-are A (settleStatement S st .1) B (subst (λ T. Valid (bare (T ++ A))) (sym (ap (λ u. u .1) (keeps-statement S st A v)))
+    statements-are A (settleStatement S st .1) B
+    (subst (λ T. Valid (bare (T ++ A))) (sym (ap (λ u. u .1) (keeps-statement S st A v)))
     (subst (λ u. Valid (bare u)) (sym (append-assoc S (st ∷ []) A)) v))
     ∙ ap (λ u. u .1 ++ A) (keeps-statement S st A v) ∙ append-assoc S (st ∷ []) A
 

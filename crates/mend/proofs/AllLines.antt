@@ -46,7 +46,8 @@ module _ (P : TextLine → ℕ → Type 0) where
 
   -- Q comes about by such a line, and by nothing else.
   module _ (Q : List StatementLine → Register → Type 0) where
-    pub comes-by : ((S : List StatementLine) (late : Bool) (R : Register) (l : TextLine) → Q (withStatement S l) (withObjection R l)
+    pub comes-by : ((S : List StatementLine) (late : Bool) (R : Register) (l : TextLine) → Q (withStatement S l)
+        (withObjection R l)
         → Q S R ⊎ P l (fateOf S late R l)) → (ls : List TextLine) (S : List StatementLine) (late : Bool) (R : Register)
         → Q (withStatements S ls) (withObjections R ls) → Q S R ⊎ Some ls (fatesFrom S late R ls)
     unfolding withStatements withObjections fatesFrom Some

@@ -111,6 +111,7 @@ kept-line ls y x w =
 pub line-kept : (ls : List TextLine) (k : ℕ) (o : ObjectionLine) → ObjectionAt ls k o → getD (fates ls) k 0 ≡ 0
     → Has (mended ls) (o .objector) (o .target)
 line-kept ls k o (h, e) f =
-    comes (Keeps (o .objector) (o .target)) (λ S R. Has R (o .objector) (o .target)) (goes-on (o .objector) (o .target)) ls [] false
+    comes (Keeps (o .objector) (o .target)) (λ S R. Has R (o .objector) (o .target)) (goes-on (o .objector) (o .target)) ls []
+    false
     (listed ls) (some-by (Keeps (o .objector) (o .target)) ls (fates ls) k h
     (subst (λ l. Keeps (o .objector) (o .target) l (getD (fates ls) k 0)) (sym e) (refl, refl, f)))

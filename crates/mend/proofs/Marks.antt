@@ -167,7 +167,8 @@ module _ (S : List StatementLine) (st : StatementLine) (late : Bool) (v : ℕ) w
           by (inr (q, inr f)) = absurd (omega (arith, f))
       go (new n l e) = rw (e, kept-stays late) by
         where
-          by : Marked S v ⊎ ((st .number ≡ v) × ((T true × (st .mark ≡ Unread)) ⊎ (movedIf late 0 ≡ 5))) → Marked (S ++ (st ∷ [])) v
+          by : Marked S v ⊎ ((st .number ≡ v) × ((T true × (st .mark ≡ Unread)) ⊎ (movedIf late 0 ≡ 5))) → Marked (S ++ (st ∷ []))
+              v
           by (inl w) = more-old S st v w
           by (inr (q, inl (t, u))) = more-new S st v q u
           by (inr (q, inr f)) = absurd (kept-not-second late f)
@@ -380,13 +381,18 @@ module _ (s : List ℕ) (ls : List TextLine) (p : LinesOf s ls) (x : ℕ) (h : x
 
   pub mark-exactly : (getD (marksOf (mended ls)) x 0 ≡ 1) ↔ UnreadBy ls (getD (numbers (mended ls)) x 0)
   unfolding v
-  mark-exactly = (λ u. why (at-marked (mended ls .statements) v x refl u), λ w. here (marked-at (mended ls .statements) v (because w)))
+  mark-exactly = (
+    λ u. why (at-marked (mended ls .statements) v x refl u),
+    λ w. here
+        (marked-at (mended ls .statements) v (because w)),
+  )
     where
       here : (i : ℕ) × (i < length (mended ls .statements)) × (getD (numbers (mended ls)) i 0 ≡ v)
           × (getD (marksOf (mended ls)) i 0 ≡ 1) → getD (marksOf (mended ls)) x 0 ≡ 1
       here (i, l, e, u) = go (decLt i x) (decLt x i)
         where
-          once : (i j : ℕ) → i < j → j < length (numbers (mended ls)) → getD (numbers (mended ls)) i 0 ≡ getD (numbers (mended ls)) j 0 → ⊥
+          once : (i j : ℕ) → i < j → j < length (numbers (mended ls)) → getD (numbers (mended ls)) i 0 ≡ getD
+              (numbers (mended ls)) j 0 → ⊥
           once = mended-valid s ls p .once
 
           go : Dec (i < x) → Dec (x < i) → getD (marksOf (mended ls)) x 0 ≡ 1

@@ -43,7 +43,8 @@ module _ (R : Register) (v : Valid R) where
       let (p, q) = v .known k h′ in (
         k,
         h′,
-        sym (number-there R (objectorNumbers R) k (omega (arith, length-map (R .objections) (λ (o : ObjectionLine). o .objector))) p)
+        sym (number-there R (objectorNumbers R) k (omega (arith, length-map (R .objections) (λ (o : ObjectionLine). o .objector)))
+            p)
             ∙ ap (λ j. getD (numbers R) j 0) a,
         sym (number-there R (targetNumbers R) k (omega (arith, length-map (R .objections) (λ (o : ObjectionLine). o .target))) q)
             ∙ ap (λ j. getD (numbers R) j 0) b,
@@ -221,7 +222,8 @@ module _ (s : List ℕ) (ls : List TextLine) (p : LinesOf s ls) (ok : Restorable
 
   -- "overturns no falls or stands of the mended register"
   pub restored-holds : (x : ℕ) → x < length (numbers (mended ls)) → ((k : ℕ) → Means (book (mended ls)) x (falls k) → (m : ℕ)
-      × (m ≤ k) × Means F x (falls m)) × ((k : ℕ) → Means (book (mended ls)) x (stands k) → (m : ℕ) × (m ≤ k) × Means F x (stands m))
+      × (m ≤ k) × Means F x (falls m)) ×
+      ((k : ℕ) → Means (book (mended ls)) x (stands k) → (m : ℕ) × (m ≤ k) × Means F x (stands m))
   unfolding n
   restored-holds x h = (
     λ k w. falls-still (book (mended ls)) F extends k x (omega (arith, book-size)) w,
@@ -263,7 +265,8 @@ module _ (R : Register) (l : TextLine) (ls : List TextLine) (u : Unknowns R ls) 
       → ((i : ℕ) → i < length (u .new) → getD (u .new) i 0 ≡ o .objector → ⊥) → Unknowns R (l ∷ ls)
   entered o e w fresh = record { new = o .objector ∷ u .new; once = once; unknown = unknown; objects = objects; every = every }
     where
-      once : (i j : ℕ) → i < j → j < length (o .objector ∷ u .new) → getD (o .objector ∷ u .new) i 0 ≡ getD (o .objector ∷ u .new) j 0
+      once : (i j : ℕ) → i < j → j < length (o .objector ∷ u .new) → getD (o .objector ∷ u .new) i 0 ≡ getD (o .objector ∷ u .new)
+          j 0
           → ⊥
       once i zero h k q = not-suc-le-zero h
       once zero (suc j) h k q = fresh j (le-of-suc-le-suc k) (sym q)
@@ -314,14 +317,17 @@ objects-at (good (Objection o)) y x = eqb (o .objector) y && eqb (o .target) x
 objects-at spoiled y x = false
 objects-at unended y x = false
 
-line-objects : (l : TextLine) (y x : ℕ) → T (objects-at l y x) ↔ ((o : ObjectionLine) × (l ≡ good (Objection o)) × (o .objector ≡ y)
+line-objects : (l : TextLine) (y x : ℕ) → T (objects-at l y x) ↔
+    ((o : ObjectionLine) × (l ≡ good (Objection o)) × (o .objector ≡ y)
     × (o .target ≡ x))
 unfolding objects-at
-line-objects (good (Statement st)) y x = (λ t. absurd t, λ w. let e = w .1 in let z : _≡_ {A = ℕ} 0 1 = cc in absurd (omega arith))
+line-objects (good (Statement st)) y x
+    = (λ t. absurd t, λ w. let e = w .1 in let z : _≡_ {A = ℕ} 0 1 = cc in absurd (omega arith))
 line-objects spoiled y x = (λ t. absurd t, λ w. let e = w .1 in let z : _≡_ {A = ℕ} 0 1 = cc in absurd (omega arith))
 line-objects unended y x = (λ t. absurd t, λ w. let e = w .1 in let z : _≡_ {A = ℕ} 0 1 = cc in absurd (omega arith))
 line-objects (good (Objection o)) y x = (
-  λ t. let (a, b) = both (eqb (o .objector) y) (eqb (o .target) x) t in (o, refl, eqb→eq (o .objector) y a, eqb→eq (o .target) x b),
+  λ t. let (a, b) = both (eqb (o .objector) y) (eqb (o .target) x) t in
+      (o, refl, eqb→eq (o .objector) y a, eqb→eq (o .target) x b),
   back,
 )
   where
@@ -356,7 +362,8 @@ module _ (ls : List TextLine) (marks : ℕ → Bool) (against : ℕ → ℕ → 
   }
 
   -- "any marks and any objections against them"
-  pub restored-any : (F : Book) × (r : Restored ls F) × ((i : ℕ) → i < length (r .new) → F .unread (length (numbers (mended ls)) + i)
+  pub restored-any : (F : Book) × (r : Restored ls F) ×
+      ((i : ℕ) → i < length (r .new) → F .unread (length (numbers (mended ls)) + i)
       ≡ marks i) × ((y i : ℕ) → i < length (r .new) → F .objects y (length (numbers (mended ls)) + i) ≡ against y i)
   unfolding new put-back restored
   restored-any = (

@@ -132,7 +132,8 @@ module _ (R : Register) (o : ObjectionLine) where
       rw (is-issued R (o .objector) y, is-issued R (o .target) x, no-repeat R o h, lt-leb 4096 (length (R .objections)) l) refl
 
 pub data ObjectionCase (R : Register) (o : ObjectionLine) : Type 0 where
-  unknown : (¬ (Issued R (o .objector) × Issued R (o .target))) → settleObjection R o ≡ (7, unread (o .target) R) → ObjectionCase R o
+  unknown : (¬ (Issued R (o .objector) × Issued R (o .target))) → settleObjection R o ≡ (7, unread (o .target) R) → ObjectionCase
+      R o
   again : Issued R (o .objector) × Issued R (o .target) → Has R (o .objector) (o .target) → settleObjection R o ≡ (8, R)
       → ObjectionCase R o
   past : Issued R (o .objector) × Issued R (o .target) → (¬ Has R (o .objector) (o .target)) → 4096 ≤ length (R .objections)

@@ -80,7 +80,8 @@ objections-from (good (Objection o) ∷ ls) S late R = go (λ R. objections-from
   where
     go : ((R : Register) → withObjections R ls .objections ≡ R .objections ++ objectionsStaying ls (fatesFrom S true R ls))
         → ObjectionCase R o → withObjections (settleObjection R o .1) ls .objections ≡ R .objections
-        ++ (cond (stays (settleObjection R o .0)) (o ∷ []) [] ++ objectionsStaying ls (fatesFrom S true (settleObjection R o .1) ls))
+        ++ (cond (stays (settleObjection R o .0)) (o ∷ []) [] ++ objectionsStaying ls
+        (fatesFrom S true (settleObjection R o .1) ls))
     go on (unknown n e) = rw e (on (unread (o .target) R))
     go on (again k h e) = rw e (on R)
     go on (past k h l e) = rw e (on (unread (o .target) R))
@@ -173,7 +174,8 @@ same-fates (good (Objection o) ∷ ls) S late R =
 same-fates (spoiled ∷ ls) S late R = same-fates ls S late R
 same-fates (unended ∷ ls) S late R = same-fates ls S late R
 
-pub no-other-effect : (ls : List TextLine) → (mended (goodLines ls) ≡ mended ls) × (fates (goodLines ls) ≡ goodFates ls (fates ls))
+pub no-other-effect : (ls : List TextLine) → (mended (goodLines ls) ≡ mended ls) ×
+    (fates (goodLines ls) ≡ goodFates ls (fates ls))
 no-other-effect ls =
     let e : listed (goodLines ls) ≡ listed ls = ap bare (same-statements ls []) in (
       same-register ls (listed (goodLines ls)) ∙ ap (λ R. withObjections R ls) e,

@@ -176,7 +176,8 @@ unfolding bytes
 never-longer s ls p = omega (arith, objections-size ls (listed ls), statements-size s ls [] p)
 
 -- "write an accepted register"
-pub mended-accepted : (s : List ℕ) (ls : List TextLine) → length s ≤ 65535 → LinesOf s ls → Accepts (written (mended ls)) (mended ls)
+pub mended-accepted : (s : List ℕ) (ls : List TextLine) → length s ≤ 65535 → LinesOf s ls → Accepts (written (mended ls))
+    (mended ls)
 mended-accepted s ls h p = record {
   fits = omega (arith, never-longer s ls p);
   valid = mended-valid s ls p;

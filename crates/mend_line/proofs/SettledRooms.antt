@@ -42,7 +42,8 @@ marks-after v (st ∷ S) zero h = go (ℕ-discrete (st .number) v)
 marks-after v (st ∷ S) (suc j) h = marks-after v S j (le-of-suc-le-suc h)
 
 -- a number that is not listed changes no mark
-unread-none : (v : ℕ) (S : List StatementLine) → ((j : ℕ) → j < length S → getD (map (λ (st : StatementLine). st .number) S) j 0 ≡ v → ⊥)
+unread-none : (v : ℕ) (S : List StatementLine)
+    → ((j : ℕ) → j < length S → getD (map (λ (st : StatementLine). st .number) S) j 0 ≡ v → ⊥)
     → map (unreadIf v) S ≡ S
 unread-none v [] f = refl
 unread-none v (st ∷ S) f = ap₂ (λ a b. a ∷ b) same (unread-none v S (λ j h. f (suc j) (omega arith)))
@@ -85,7 +86,8 @@ module _ (R : Register) (n m : ℕ) (nums marks objectors targets : List ℕ) (h
       marked : set (marksOf R) i 1 ≡ marksOf (unread v R)
       marked =
           ext-getD 0 (set (marksOf R) i 1) (marksOf (unread v R))
-          (length-set (marksOf R) i 1 ∙ count ∙ sym (length-map (map (unreadIf v) (R .statements)) (λ (st : StatementLine). markNumber (st .mark))
+          (length-set (marksOf R) i 1 ∙ count ∙ sym
+          (length-map (map (unreadIf v) (R .statements)) (λ (st : StatementLine). markNumber (st .mark))
           ∙ length-map (R .statements) (unreadIf v) ∙ h .statements))
           (λ j k. let k′ : j < n = omega (arith, length-set (marksOf R) i 1, count) in
           each j k′ (ℕ-discrete j i) ∙ sym (marks-after v (R .statements) j (omega (arith, h .statements))))
@@ -144,7 +146,8 @@ module _ (R : Register) (n m : ℕ) (nums marks objectors targets : List ℕ) (h
       rw (e, q, a, b, c) (
         refl,
         valid-unread (o .target) R valid,
-        subst (λ Q. Holds Q n m nums marks objectors targets) (sym (unread-unlisted R n m nums marks objectors targets h valid (o .target) off)) h,
+        subst (λ Q. Holds Q n m nums marks objectors targets)
+            (sym (unread-unlisted R n m nums marks objectors targets h valid (o .target) off)) h,
       )
   objection-held (inr (inl (e, absent, (x, at, a), b, c))) =
       let off = off-register R n m nums marks objectors targets h (o .objector) absent in

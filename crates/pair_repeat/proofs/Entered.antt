@@ -89,7 +89,8 @@ module _ (n m : ℕ) (pairs links : List ℕ) (chains : Entered n m pairs links)
     where
       begun : (u : ℕ) → u < n → Stored u y (beginBy links′ u) (beginBy links u) (m + 1)
       begun u h =
-          rw (← (link-by links m (beginBy links y) left (earlier .1) (chains .links-room) u)) (begins-by linked y x (m + 1) low-y low-x words u)
+          rw (← (link-by links m (beginBy links y) left (earlier .1) (chains .links-room) u))
+          (begins-by linked y x (m + 1) low-y low-x words u)
 
       put : (e : ℕ) → e < m + 1 → Stored e m (linkBy links′ e) (linkBy links e) (beginBy links y)
       put e h =

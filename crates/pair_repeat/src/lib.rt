@@ -1,11 +1,12 @@
-// Whether an objection stands already, found along chains: objections in two linked rooms, chained by objector and by target. What
-// a repeat means for a text or for lists is left to others, and what the words of the rooms hold to `pair_words`.
+// Whether an objection stands already, found along chains: objections in two linked rooms, chained by objector and by target.
+// What a repeat means for a text or for lists is left to others, and what the words of the rooms hold to `pair_words`.
 //
-// The search walks both chains side by side, and is over where the shorter one ends: with the target's chain alone, four targets
-// with 1,024 objectors each took a quarter longer than going over all earlier pairs (4.6 against 3.6 ms in a trial in C), since
-// each step waits for the one before. So the searches of 4,096 objections take at most 128 steps each on average: those against a
-// target with at most 64 objectors take 64 at most; at most 64 targets have more, so of the objections by one statement at most 64
-// are against such, each in as many steps at most as that statement has objections. No contract counts steps.
+// The search walks both chains side by side, and is over where the shorter one ends: with the target's chain alone, four
+// targets with 1,024 objectors each took a quarter longer than going over all earlier pairs (4.6 against 3.6 ms in a trial in
+// C), since each step waits for the one before. So the searches of 4,096 objections take at most 128 steps each on average:
+// those against a target with at most 64 objectors take 64 at most; at most 64 targets have more, so of the objections by one
+// statement at most 64 are against such, each in as many steps at most as that statement has objections. No contract counts
+// steps.
 use pair_words::begin_against;
 use pair_words::begin_by;
 use pair_words::link_against;

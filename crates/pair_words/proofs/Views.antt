@@ -141,7 +141,12 @@ module _ (links : List ℕ) (e l : ℕ) (entry : e < 4096) (small : l < 4096) (w
           rw (put-high links e l (omega arith), link-low (withHigh links (e - 3072) l) i j, link-low links i j)
           (inr ((λ p. omega arith), high-low links (e - 3072) l (omega arith) i))
       go (no h) (no j) =
-          rw (put-high links e l (omega arith), link-high (withHigh links (e - 3072) l) i (omega arith), link-high links i (omega arith))
+          rw (
+            put-high links e l (omega arith),
+            link-high (withHigh links (e - 3072) l) i (omega arith),
+            link-high links i
+                (omega arith),
+          )
           (⊎-elim (λ w. inl (omega (arith, w .0), w .1)) (λ w. inr ((λ p. w .0 (omega arith)), w .1))
           (high-high links (e - 3072) l (omega arith) (i - 3072)))
 
@@ -178,12 +183,14 @@ module _ (links : List ℕ) (y x b : ℕ) (objector : y < 1024) (target : x < 10
   pub begins-against : (u : ℕ) → Stored u x (beginAgainst (withBegins links y x b) u) (beginAgainst links u) b
   unfolding beginAgainst
   begins-against u =
-      rw (as-was (1024 + 2 * u) (1025 + 2 * y) (second (1024 + 2 * u)) (λ p. omega arith)) (of-place 1024 u x (first (1024 + 2 * u)))
+      rw (as-was (1024 + 2 * u) (1025 + 2 * y) (second (1024 + 2 * u)) (λ p. omega arith))
+      (of-place 1024 u x (first (1024 + 2 * u)))
 
   pub begins-by : (u : ℕ) → Stored u y (beginBy (withBegins links y x b) u) (beginBy links u) b
   unfolding beginBy
   begins-by u =
-      rw (← (as-was (1025 + 2 * u) (1024 + 2 * x) (first (1025 + 2 * u)) (λ p. omega arith))) (of-place 1025 u y (second (1025 + 2 * u)))
+      rw (← (as-was (1025 + 2 * u) (1024 + 2 * x) (first (1025 + 2 * u)) (λ p. omega arith)))
+      (of-place 1025 u y (second (1025 + 2 * u)))
 
   begins-low : (i : ℕ) → low (withBegins links y x b) i ≡ low links i
   unfolding withBegins

@@ -28,6 +28,7 @@ module _ (s room : List ℕ) (long : 131072 ≤ length room) where
       → (size ≤ length put) × Prints s (take size put)
   prints a after size put p w =
       let (fits, shown) = put-shown (RefusedOn (Accepts s) (TextRefused s) (λ R. Short (ListingShort room R)))
-      (GivenOn (Accepts s) (λ R. ListingIn R room)) (λ l. (R : Register) × Accepts s R × IsListing R l) room (λ n after (R, a, (l, is, w)). (l, (R, a, is), w)) a after size put
+      (GivenOn (Accepts s) (λ R. ListingIn R room)) (λ l. (R : Register) × Accepts s R × IsListing R l) room
+      (λ n after (R, a, (l, is, w)). (l, (R, a, is), w)) a after size put
       p w in
       (fits, ⊎-elim inl (λ (r, p, e). inr (fault-printed s (take size put) r (refused-text r p) e)) shown)

@@ -1,5 +1,5 @@
--- What is asked about the statement of a number, on a text: 14, 15 and 10 are given exactly when they are due; and where the answer
--- is a list that is settled by the statement, the promise leaves one answer.
+-- What is asked about the statement of a number, on a text: 14, 15 and 10 are given exactly when they are due; and where the
+-- answer is a list that is settled by the statement, the promise leaves one answer.
 use mathlib.Core.List.{List}
 use mathlib.Core.Path.{subst, ap, _≡_}
 use Prim.Native.Nat.{ℕ, _≤_, _<_}

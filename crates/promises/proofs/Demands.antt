@@ -264,7 +264,8 @@ module _ (s : List ℕ) where
       whole =
           answers _ _ (TextRefused s) Fine tt
           (λ a a′ after after′ p q. unique-text-exercise s number turns a a′ p q) (λ r. inl)
-          (λ r p f. on-apart (text-apart s) later r (f .0) p (f .1) (λ h. asks-none (Issued (f .0) number) turns ⊥ r h (f .2) (f .3)
+          (λ r p f. on-apart (text-apart s) later r (f .0) p (f .1)
+          (λ h. asks-none (Issued (f .0) number) turns ⊥ r h (f .2) (f .3)
           (λ z. z))) (λ n after (R, a, (few, (x, q, is))). (R, a, (x, q .0, q .1), few))
 
 -- Demands 2 and 3: what a written label, length and kind says.

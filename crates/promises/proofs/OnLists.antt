@@ -36,8 +36,8 @@ module _ (marks objectors targets : List ℕ) where
     one-refusal = lists-apart .refuses-once;
   }
 
--- What is asked about a place that is not below the number of marks is refused with 14. The code works with the place as an index;
--- it is the place asked for.
+-- What is asked about a place that is not below the number of marks is refused with 14. The code works with the place as an
+-- index; it is the place asked for.
 pub unlisted : (marks : List ℕ) (x place : ℕ) → x ≡ place → (turns : ℕ) (short : Type 0) → length marks ≤ x
     → Asks (place < length marks) turns short Asked
 unlisted marks x place e turns short h = inl (λ g. omega arith, refl)

@@ -108,6 +108,7 @@ pub unique-batqemulo-text-exercise : (s : List ℕ) (number turns : ℕ) (c c′
     → InC (TextExercise s number turns) c′ → c ≡ c′
 unique-batqemulo-text-exercise s number turns = one-answer (TextExercise s number turns) (unique-text-exercise s number turns)
 
-pub unique-batqemulo-mend : (s : List ℕ) (lent : Lent) (c c′ : CAnswer) (after after′ : Lent) → InC (λ a. TextMend s lent a after) c
+pub unique-batqemulo-mend : (s : List ℕ) (lent : Lent) (c c′ : CAnswer) (after after′ : Lent) → InC (λ a. TextMend s lent a after)
+    c
     → InC (λ a. TextMend s lent a after′) c′ → (c ≡ c′) × (after ≡ after′)
 unique-batqemulo-mend s lent = in-c-unique (TextMend s lent) (unique-text-mend s lent)

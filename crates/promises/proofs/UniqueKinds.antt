@@ -35,7 +35,8 @@ module _ (marks objectors targets : List ℕ) where
           → after ≡ after′
       one-room number n room after after′ b b′ =
           let B = bookOf marks objectors targets in
-          begins-unique (λ k e. (a : Account) × OfObjection B (getD objectors k 0) (getD targets k 0) a × (e ≡ number a)) room n after
+          begins-unique (λ k e. (a : Account) × OfObjection B (getD objectors k 0) (getD targets k 0) a × (e ≡ number a)) room n
+          after
           after′ (λ k i j h. number-once (OfObjection B (getD objectors k 0) (getD targets k 0))
           (objection-once B (getD objectors k 0) (getD targets k 0)) number i j) b b′
 

@@ -60,7 +60,8 @@ module _ (s : List ℕ) (lent : Lent) where
   exactly-text-mend a after p = record {
     one = (λ e. long (due (Text TooLong) .0 e), λ h. due (Text TooLong) .1 (inl (h, refl)));
     ten =
-        on-exactly (lines-apart s) later (λ ls. short-once (MendedShort ls lent)) (λ ls. MendedIn ls lent) fits lent a after p Room
+        on-exactly (lines-apart s) later (λ ls. short-once (MendedShort ls lent)) (λ ls. MendedIn ls lent) fits lent a after p
+        Room
         (λ q. subst Later (q .1) tt) (λ ls. MendedShort ls lent) (λ ls. (λ q. q .0, λ h. (h, refl)));
     no-other = λ r e. which r (due r .0 e);
   }

@@ -89,7 +89,8 @@ module _ (s : List ℕ) (rooms : List ℕ × List ℕ) where
         (λ R. (short (book R), λ (old, h). inr (old, (h, refl))));
   }
     where
-      due : (r : Refusal) → ¬ TextRefused s r → (due : Register → Type 0) → ((R : Register) → UpdateRefused (book R) rooms r ↔ due R)
+      due : (r : Refusal) → ¬ TextRefused s r → (due : Register → Type 0)
+          → ((R : Register) → UpdateRefused (book R) rooms r ↔ due R)
           → (a ≡ Refused r) ↔ ((R : Register) × Accepts s R × due R)
       due =
           on-exactly (text-apart s) (λ R. UpdateRefused (book R) rooms) (λ R. update-refused-once (book R) rooms)

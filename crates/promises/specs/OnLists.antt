@@ -1,5 +1,5 @@
--- The one shape of a promise on handed lists: the refusals of the lists come first, then those of what is asked of them. Lists that
--- are accepted make nothing else: they are used as they are.
+-- The one shape of a promise on handed lists: the refusals of the lists come first, then those of what is asked of them. Lists
+-- that are accepted make nothing else: they are used as they are.
 use mathlib.Core.List.{List}
 use mathlib.Core.Path.{_≡_}
 use Prim.Native.Nat.{ℕ}

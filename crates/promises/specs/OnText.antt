@@ -1,5 +1,5 @@
--- The one shape of a promise on a register text: the refusals of the text come first, then those of what is asked of its register,
--- and what is given is of its register.
+-- The one shape of a promise on a register text: the refusals of the text come first, then those of what is asked of its
+-- register, and what is given is of its register.
 use mathlib.Core.List.{List}
 use mathlib.Core.Path.{_≡_}
 use Prim.Native.Nat.{ℕ}

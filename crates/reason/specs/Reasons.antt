@@ -19,4 +19,5 @@ pub record IsReason (R : Register) (x : ℕ) (l : List ℕ) : Type 0 where
   pub of-objections : ObjectionsTold R objections
   pub inside : ℕ → Bool
   pub exactly : Chooses R x inside
-  pub is : l ≡ statementRow (getD (numbers R) x 0) statement ++ objectionRows (keep inside (R .objections)) (keep inside objections)
+  pub is : l ≡ statementRow (getD (numbers R) x 0) statement ++ objectionRows (keep inside (R .objections))
+      (keep inside objections)

@@ -60,4 +60,5 @@ Refuses s (Unknown k) =
     (λ o. (length (R .objections) < 4096) × ¬ (OnRegister R (o .objector) × OnRegister R (o .target))))
 Refuses s (Repeated k) =
     FaultAt s k (λ R rest. NextObjection rest
-    (λ o. (length (R .objections) < 4096) × OnRegister R (o .objector) × OnRegister R (o .target) × Has R (o .objector) (o .target)))
+    (λ o. (length (R .objections) < 4096) × OnRegister R (o .objector) × OnRegister R (o .target) × Has R (o .objector)
+    (o .target)))

@@ -1,11 +1,11 @@
 // The place of a number, found without a scan: the places of the numbers entered stand in a tree, and who looks a number up
-// goes down by its digits in base 8. Who asks only once scans the numbers instead (`find`). What the numbers stand for is left to
-// the caller.
+// goes down by its digits in base 8. Who asks only once scans the numbers instead (`find`). What the numbers stand for is left
+// to the caller.
 //
-// `links` has eight slots for each of 1,024 places and for the root, 8 · 1,025 = 8,200 entries of 16 bits: slot 8 · p + d leads from
-// the place p, counted from 1, on by the digit d, and 0 leads nowhere. The last digit comes first, since numbers that are issued
-// one after the other differ there. No choice of numbers makes it slow, as a hash table can be made: a number of 32 bits has at
-// most 11 digits, and so many steps are the most; no contract says so.
+// `links` has eight slots for each of 1,024 places and for the root, 8 · 1,025 = 8,200 entries of 16 bits: slot 8 · p + d leads
+// from the place p, counted from 1, on by the digit d, and 0 leads nowhere. The last digit comes first, since numbers that are
+// issued one after the other differ there. No choice of numbers makes it slow, as a hash table can be made: a number of 32 bits
+// has at most 11 digits, and so many steps are the most; no contract says so.
 use pair_chain::wide;
 ghost use mathlib.Core.Path.{_≡_};
 ghost use Prim.Native.Nat.{_≤_, _+_};

@@ -1,8 +1,8 @@
 // Words and decimals written into a lent room, one behind the other, and how long they are. What is written, and that there is
 // room for it, is for others to say; a register's number is left to `register_number`.
 //
-// Decimals are put two digits at a time, since each division waits for the one before: one by one, writing numbers took two fifths
-// of the time of a listing with few objections.
+// Decimals are put two digits at a time, since each division waits for the one before: one by one, writing numbers took two
+// fifths of the time of a listing with few objections.
 ghost use mathlib.Core.Path.{_≡_};
 ghost use Prim.Native.Nat.{_<_};
 ghost use lib.ListN.{length};

@@ -52,10 +52,12 @@ slice-aggregate-write-2 c = search needs
 
 write-requires : tie.Need-write-requires
 write-requires c κs =
-    let pre = c .before .before .before .before .before .before .before .before .before .before .before .before .before .before .before .before .before .pre in
-    let turns = c .before .before .before .before .before .before .before .before .before .before .turns in
-    let wide = c .before .before .before .before .before .before .before .before .before .wide in
-    let if1 = c .before .before .before .before .before .before .before .before .if1 in
+    let back = c .before .before .before .before .before .before .before .before in
+    let far = back .before .before .before .before .before .before .before .before in
+    let pre = far .before .pre in
+    let turns = back .before .before .turns in
+    let wide = back .before .wide in
+    let if1 = back .if1 in
     let chain = c .before .before .before .before .before .chain in (
       (
         pre .0,
@@ -73,10 +75,12 @@ same-length c = search needs
 
 returns-2 : tie.Need-returns-2
 returns-2 c =
-    let pre = c .before .before .before .before .before .before .before .before .before .before .before .before .before .before .before .before .before .before .before .before .pre in
-    let turns = c .before .before .before .before .before .before .before .before .before .before .before .before .before .turns in
-    let wide = c .before .before .before .before .before .before .before .before .before .before .before .before .wide in
-    let if1 = c .before .before .before .before .before .before .before .before .before .before .before .if1 in
+    let back = c .before .before .before .before .before .before .before .before in
+    let far = back .before .before .before .before .before .before .before .before in
+    let pre = far .before .before .before .before .pre in
+    let turns = back .before .before .before .before .before .turns in
+    let wide = back .before .before .before .before .wide in
+    let if1 = back .before .before .before .if1 in
     lined-written _ _ _ _ _ (pre .0) _ _ (pre .1) (turns .ensures) _ _ _ (wide .ensures) (if1 .left)
     (c .before .before .write .ensures)
 

@@ -36,7 +36,9 @@ returns-7 c e = absurd (omega arith)
 
 solve-requires : tie.Need-solve-requires
 solve-requires c κs =
-    let args = c .before .before .before .before .before .before .before .before .before .before .before .before .before .before .before .before .args in
+    let back = c .before .before .before .before .before .before .before .before in
+    let far = back .before .before .before .before .before .before .before .before in
+    let args = far .args in
     let bad-mark = c .before .before .before .before .before .before .before .bad-mark in
     let if4 = c .before .before .before .before .before .before .if4 in
     let bad-place = c .before .before .before .before .before .bad-place in

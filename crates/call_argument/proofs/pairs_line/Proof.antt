@@ -56,12 +56,15 @@ slice-aggregate-argument-2 c = search needs
 
 argument-requires : tie.Need-argument-requires
 argument-requires c κs =
-    let args = c .before .before .before .before .before .before .before .before .before .before .before .before .before .before .before .before .before .args in
-    let check = c .before .before .before .before .before .before .before .before .before .before .before .before .check in
-    let enum-told = c .before .before .before .before .before .before .before .before .before .before .enum-told in
-    let if1 = c .before .before .before .before .before .before .before .before .if1 in
+    let back = c .before .before .before .before .before .before .before .before in
+    let far = back .before .before .before .before .before .before .before .before in
+    let args = far .before .args in
+    let check = back .before .before .before .before .check in
+    let enum-told = back .before .before .enum-told in
+    let if1 = back .if1 in
     let solve = c .before .before .before .before .before .solve in
-    let l : Lists (args .marks .now) (args .objectors .now) (args .targets .now) = rw (enum-told .given .1) at (check .ensures) in (
+    let told = enum-told .given .1 in
+    let l : Lists (args .marks .now) (args .objectors .now) (args .targets .now) = rw told at (check .ensures) in (
       settled _ _ _ l _ _ _ _ (solve .ensures) (omega (arith, solve .kept .1 .1 .1 .0))
           (omega (arith, solve .kept .1 .1 .1 .1 .0)),
       if1 .left,
@@ -72,11 +75,13 @@ same-length c = search needs
 
 returns-3 : tie.Need-returns-3
 returns-3 c =
-    let args = c .before .before .before .before .before .before .before .before .before .before .before .before .before .before .before .before .before .before .before .before .before .args in
-    let check = c .before .before .before .before .before .before .before .before .before .before .before .before .before .before .before .before .check in
-    let enum-told = c .before .before .before .before .before .before .before .before .before .before .before .before .before .before .enum-told in
-    let place = c .before .before .before .before .before .before .before .before .before .before .before .before .before .place in
-    let if1 = c .before .before .before .before .before .before .before .before .before .before .before .before .if1 in
+    let back = c .before .before .before .before .before .before .before .before in
+    let far = back .before .before .before .before .before .before .before .before in
+    let args = far .before .before .before .before .before .args in
+    let check = far .check in
+    let enum-told = back .before .before .before .before .before .before .enum-told in
+    let place = back .before .before .before .before .before .place in
+    let if1 = back .before .before .before .before .if1 in
     let argument = c .before .before .before .argument in
     let l : Lists (args .marks .now) (args .objectors .now) (args .targets .now) = rw (enum-told .given .1) at (check .ensures) in
     line-short _ _ _ l _ _ (place .ensures) (if1 .left) _ _ _ (argument .ensures) (argument .kept .1 .1 .1 .1 .1 .1 .0)
@@ -84,11 +89,13 @@ returns-3 c =
 
 cast-t28 : tie.Need-cast-t28
 cast-t28 c =
-    let args = c .before .before .before .before .before .before .before .before .before .before .before .before .before .before .before .before .before .before .before .before .before .args in
-    let check = c .before .before .before .before .before .before .before .before .before .before .before .before .before .before .before .before .check in
-    let enum-told = c .before .before .before .before .before .before .before .before .before .before .before .before .before .before .enum-told in
-    let place = c .before .before .before .before .before .before .before .before .before .before .before .before .before .place in
-    let if1 = c .before .before .before .before .before .before .before .before .before .before .before .before .if1 in
+    let back = c .before .before .before .before .before .before .before .before in
+    let far = back .before .before .before .before .before .before .before .before in
+    let args = far .before .before .before .before .before .args in
+    let check = far .check in
+    let enum-told = back .before .before .before .before .before .before .enum-told in
+    let place = back .before .before .before .before .before .place in
+    let if1 = back .before .before .before .before .if1 in
     let argument = c .before .before .before .argument in
     let l : Lists (args .marks .now) (args .objectors .now) (args .targets .now) = rw (enum-told .given .1) at (check .ensures) in
     omega (
@@ -102,11 +109,13 @@ same-length-2 c = search needs
 
 returns-4 : tie.Need-returns-4
 returns-4 c =
-    let args = c .before .before .before .before .before .before .before .before .before .before .before .before .before .before .before .before .before .before .before .before .before .args in
-    let check = c .before .before .before .before .before .before .before .before .before .before .before .before .before .before .before .before .check in
-    let enum-told = c .before .before .before .before .before .before .before .before .before .before .before .before .before .before .enum-told in
-    let place = c .before .before .before .before .before .before .before .before .before .before .before .before .before .place in
-    let if1 = c .before .before .before .before .before .before .before .before .before .before .before .before .if1 in
+    let back = c .before .before .before .before .before .before .before .before in
+    let far = back .before .before .before .before .before .before .before .before in
+    let args = far .before .before .before .before .before .args in
+    let check = far .check in
+    let enum-told = back .before .before .before .before .before .before .enum-told in
+    let place = back .before .before .before .before .before .place in
+    let if1 = back .before .before .before .before .if1 in
     let argument = c .before .before .before .argument in
     let l : Lists (args .marks .now) (args .objectors .now) (args .targets .now) = rw (enum-told .given .1) at (check .ensures) in
     line-given _ _ _ l _ _ (place .ensures) (if1 .left) _ _ _ (argument .ensures) (argument .kept .1 .1 .1 .1 .1 .1 .0)

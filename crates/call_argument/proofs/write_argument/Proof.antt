@@ -31,7 +31,8 @@ returns-2 c =
 
 renumber-requires : tie.Need-renumber-requires
 renumber-requires c κs =
-    let pre = c .before .before .before .before .before .before .before .before .before .before .before .before .before .before .before .pre in
+    let back = c .before .before .before .before .before .before .before .before in
+    let pre = back .before .before .before .before .before .before .before .pre in
     let find = c .before .before .before .before .before .before .before .find in
     let if1 = c .before .before .before .before .before .before .if1 in
     let argument = c .before .before .before .before .argument in (
@@ -42,9 +43,11 @@ renumber-requires c κs =
 
 cast-t21 : tie.Need-cast-t21
 cast-t21 c =
-    let pre = c .before .before .before .before .before .before .before .before .before .before .before .before .before .before .before .before .before .before .pre in
-    let find = c .before .before .before .before .before .before .before .before .before .before .find in
-    let if1 = c .before .before .before .before .before .before .before .before .before .if1 in
+    let back = c .before .before .before .before .before .before .before .before in
+    let far = back .before .before .before .before .before .before .before .before in
+    let pre = far .before .before .pre in
+    let find = back .before .before .find in
+    let if1 = back .before .if1 in
     let argument = c .before .before .before .before .before .before .before .argument in
     omega (
       arith,

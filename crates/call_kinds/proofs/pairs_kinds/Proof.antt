@@ -21,8 +21,10 @@ enum-told : tie.Need-enum-told
 enum-told c = search needs
 
 returns-2 : tie.Need-returns-2
-returns-2 c =
-    (inr (tt, rw (c .before .enum-told .given .1) at (c .before .before .before .check .ensures), (inl (c .if1 .taken), refl)), refl)
+returns-2 c = (
+  inr (tt, rw (c .before .enum-told .given .1) at (c .before .before .before .check .ensures), (inl (c .if1 .taken), refl)),
+  refl,
+)
 
 returns-3 : tie.Need-returns-3
 returns-3 c = (
@@ -56,13 +58,16 @@ slice-aggregate-write-kinds-2 c = search needs
 
 write-kinds-requires : tie.Need-write-kinds-requires
 write-kinds-requires c κs =
-    let args = c .before .before .before .before .before .before .before .before .before .before .before .before .before .before .before .before .before .before .before .args in
-    let check = c .before .before .before .before .before .before .before .before .before .before .before .before .before .check in
-    let enum-told = c .before .before .before .before .before .before .before .before .before .before .before .enum-told in
-    let if1 = c .before .before .before .before .before .before .before .before .before .before .if1 in
-    let if2 = c .before .before .before .before .before .before .before .before .before .if2 in
+    let back = c .before .before .before .before .before .before .before .before in
+    let far = back .before .before .before .before .before .before .before .before in
+    let args = far .before .before .before .args in
+    let check = back .before .before .before .before .before .check in
+    let enum-told = back .before .before .before .enum-told in
+    let if1 = back .before .before .if1 in
+    let if2 = back .before .if2 in
     let solve = c .before .before .before .before .before .before .solve in
-    let l : Lists (args .marks .now) (args .objectors .now) (args .targets .now) = rw (enum-told .given .1) at (check .ensures) in (
+    let told = enum-told .given .1 in
+    let l : Lists (args .marks .now) (args .objectors .now) (args .targets .now) = rw told at (check .ensures) in (
       handed _ _ _ l,
       (
         (
@@ -75,9 +80,12 @@ write-kinds-requires c κs =
 
 cast-t29 : tie.Need-cast-t29
 cast-t29 c =
-    let args = c .before .before .before .before .before .before .before .before .before .before .before .before .before .before .before .before .before .before .before .before .before .before .before .before .args in
-    let check = c .before .before .before .before .before .before .before .before .before .before .before .before .before .before .before .before .before .before .check in
-    let enum-told = c .before .before .before .before .before .before .before .before .before .before .before .before .before .before .before .before .enum-told in
+    let back = c .before .before .before .before .before .before .before .before in
+    let far = back .before .before .before .before .before .before .before .before in
+    let further = far .before .before .before .before .before .before .before .before in
+    let args = further .args in
+    let check = far .before .before .check in
+    let enum-told = far .enum-told in
     let l : Lists (args .marks .now) (args .objectors .now) (args .targets .now) = rw (enum-told .given .1) at (check .ensures) in
     omega (arith, l .few-pairs)
 
@@ -89,9 +97,12 @@ same-length-2 c = search needs
 
 returns-4 : tie.Need-returns-4
 returns-4 c =
-    let args = c .before .before .before .before .before .before .before .before .before .before .before .before .before .before .before .before .before .before .before .before .before .before .before .before .args in
-    let check = c .before .before .before .before .before .before .before .before .before .before .before .before .before .before .before .before .before .before .check in
-    let enum-told = c .before .before .before .before .before .before .before .before .before .before .before .before .before .before .before .before .enum-told in
+    let back = c .before .before .before .before .before .before .before .before in
+    let far = back .before .before .before .before .before .before .before .before in
+    let further = far .before .before .before .before .before .before .before .before in
+    let args = further .args in
+    let check = far .before .before .check in
+    let enum-told = far .enum-told in
     let write-kinds = c .before .before .before .before .write-kinds in
     let l : Lists (args .marks .now) (args .objectors .now) (args .targets .now) = rw (enum-told .given .1) at (check .ensures) in
     (tt, l, (refl, write-kinds .ensures .0, write-kinds .ensures .1))

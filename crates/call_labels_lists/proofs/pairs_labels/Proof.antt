@@ -38,8 +38,9 @@ solve-requires c κs =
 
 cast-t18 : tie.Need-cast-t18
 cast-t18 c =
-    let args = c .before .before .before .before .before .before .before .before .before .before .before .before .before .before .args in
-    let check = c .before .before .before .before .before .before .before .before .before .check in
+    let back = c .before .before .before .before .before .before .before .before in
+    let args = back .before .before .before .before .before .before .args in
+    let check = back .before .check in
     let enum-told = c .before .before .before .before .before .before .before .enum-told in
     let l : Lists (args .marks .now) (args .objectors .now) (args .targets .now) = rw (enum-told .given .1) at (check .ensures) in
     omega (arith, l .few-marks)
@@ -49,8 +50,9 @@ same-length c = search needs
 
 returns-3 : tie.Need-returns-3
 returns-3 c =
-    let args = c .before .before .before .before .before .before .before .before .before .before .before .before .before .before .args in
-    let check = c .before .before .before .before .before .before .before .before .before .check in
+    let back = c .before .before .before .before .before .before .before .before in
+    let args = back .before .before .before .before .before .before .args in
+    let check = back .before .check in
     let enum-told = c .before .before .before .before .before .before .before .enum-told in
     let if1 = c .before .before .before .before .before .before .if1 in
     let solve = c .before .before .before .solve in

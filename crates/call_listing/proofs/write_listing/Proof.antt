@@ -24,15 +24,19 @@ same-length c = search needs
 
 returns : tie.Need-returns
 returns c =
-    let args = c .before .before .before .before .before .before .before .before .before .before .before .before .before .args in
+    let back = c .before .before .before .before .before .before .before .before in
+    let args = back .before .before .before .before .before .args in
     let write = c .before .before .write in
     λ R ready bounded. well-written R (args .room .now)
-    (rw (c .before .before .before .before .if1 .taken) at (c .before .before .before .before .before .has-room .ensures R ready bounded)) (write .result)
+    (rw (c .before .before .before .before .if1 .taken) at
+    (c .before .before .before .before .before .has-room .ensures R ready bounded)) (write .result)
     (write .last .1 .1 .1 .1 .1 .1 .0) (write .ensures R ready)
 
 returns-2 : tie.Need-returns-2
 returns-2 c =
-    λ R ready bounded. too-long R (c .before .before .before .before .before .before .before .before .before .args .room .now) (rw (c .if1 .left) at (c .before .has-room .ensures R ready bounded))
+    let back = c .before .before .before .before .before .before .before .before in
+    λ R ready bounded. too-long R (back .before .args .room .now)
+    (rw (c .if1 .left) at (c .before .has-room .ensures R ready bounded))
 
 pub write-listing-spec : {M : Type 1} → statement M
 write-listing-spec =

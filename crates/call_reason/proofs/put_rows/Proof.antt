@@ -63,9 +63,11 @@ loop-less c = search needs
 
 loop-again : tie.Need-loop-again Inv-loop μ-loop
 loop-again c =
+    let back = c .before .before .before .before .before .before .before .before in
+    let far = back .before .before .before .before .before .before .before .before in
     let loop-test = c .before .before .before .before .before .before .loop-test in
-    let pre = c .before .before .before .before .before .before .before .before .before .before .before .before .before .before .before .before .pre in
-    let args = c .before .before .before .before .before .before .before .before .before .before .before .before .before .before .before .before .args in
+    let pre = far .pre in
+    let args = far .args in
     let loop = c .before .before .before .before .before .before .before .loop in (
       search needs,
       c .before .before .put-entry .kept .0 ∙ loop .inv .1,

@@ -31,7 +31,8 @@ slice-aggregate-write-rows c = search needs
 
 write-rows-requires : tie.Need-write-rows-requires
 write-rows-requires c κs =
-    let pre = c .before .before .before .before .before .before .before .before .before .before .before .before .before .before .pre in
+    let back = c .before .before .before .before .before .before .before .before in
+    let pre = back .before .before .before .before .before .before .pre in
     let ready = pre .1 in
     let few = ready-settled _ _ _ _ _ _ _ ready .handed .few-pairs in (
       ready-lists _ _ _ _ _ _ _ ready,
@@ -46,10 +47,12 @@ same-length c = search needs
 
 returns-2 : tie.Need-returns-2
 returns-2 c =
+    let back = c .before .before .before .before .before .before .before .before in
+    let far = back .before .before .before .before .before .before .before .before in
     let choose = c .before .before .before .before .before .before .choose in
-    let if1 = c .before .before .before .before .before .before .before .before .if1 in
-    let find = c .before .before .before .before .before .before .before .before .before .find in
-    let args = c .before .before .before .before .before .before .before .before .before .before .before .before .before .before .before .before .before .args in
+    let if1 = back .if1 in
+    let find = back .before .find in
+    let args = far .before .args in
     λ R ready. reason-written R (args .numbers .now) (args .marks .now) (args .objectors .now) (args .targets .now)
     (args .labels .now) (args .lengths .now) ready (args .number) (find .result) (find .ensures)
     (if1 .left) (choose .last .1 .1 .1 .1 .1 .1 .0) (choose .ensures) (args .room .now)

@@ -43,7 +43,8 @@ add-size c =
 
 returns : tie.Need-returns
 returns c =
-    let args = c .before .before .before .before .before .before .before .before .before .before .before .before .before .before .args in
+    let back = c .before .before .before .before .before .before .before .before in
+    let args = back .before .before .before .before .before .before .args in
     let sum = rows-sum (args .numbers .now) (args .objectors .now) (args .targets .now) (args .labels .now) (args .lengths .now)
     (args .inside .now) (args .x) _ _
     (c .before .before .statement-size .ensures) (c .before .rows-size .ensures) in
@@ -66,9 +67,11 @@ shared-slice-read-put-statement-3 c = search needs
 
 put-statement-requires : tie.Need-put-statement-requires
 put-statement-requires c κs =
+    let back = c .before .before .before .before .before .before .before .before in
+    let far = back .before .before .before .before .before .before .before .before in
     let rows-size = c .before .before .before .before .before .rows-size in
     let statement-size = c .before .before .before .before .before .before .statement-size in
-    let args = c .before .before .before .before .before .before .before .before .before .before .before .before .before .before .before .before .before .before .args in
+    let args = far .before .before .args in
     let sum = rows-sum (args .numbers .now) (args .objectors .now) (args .targets .now) (args .labels .now) (args .lengths .now)
     (args .inside .now) (args .x) _ _
     (statement-size .ensures) (rows-size .ensures) in
@@ -76,11 +79,13 @@ put-statement-requires c κs =
 
 put-rows-requires : tie.Need-put-rows-requires
 put-rows-requires c κs =
-    let if1 = c .before .before .before .before .before .before .before .before .if1 in
-    let rows-size = c .before .before .before .before .before .before .before .before .before .rows-size in
-    let statement-size = c .before .before .before .before .before .before .before .before .before .before .statement-size in
-    let pre = c .before .before .before .before .before .before .before .before .before .before .before .before .before .before .before .before .before .before .before .before .before .before .pre in
-    let args = c .before .before .before .before .before .before .before .before .before .before .before .before .before .before .before .before .before .before .before .before .before .before .args in
+    let back = c .before .before .before .before .before .before .before .before in
+    let far = back .before .before .before .before .before .before .before .before in
+    let if1 = back .if1 in
+    let rows-size = back .before .rows-size in
+    let statement-size = back .before .before .statement-size in
+    let pre = far .before .before .before .before .before .before .pre in
+    let args = far .before .before .before .before .before .before .args in
     let sum = rows-sum (args .numbers .now) (args .objectors .now) (args .targets .now) (args .labels .now) (args .lengths .now)
     (args .inside .now) (args .x) _ _
     (statement-size .ensures) (rows-size .ensures) in (
@@ -98,10 +103,13 @@ put-rows-requires c κs =
 
 cast-t15 : tie.Need-cast-t15
 cast-t15 c =
-    let rows-size = c .before .before .before .before .before .before .before .before .before .before .before .before .rows-size in
-    let statement-size = c .before .before .before .before .before .before .before .before .before .before .before .before .before .statement-size in
-    let pre = c .before .before .before .before .before .before .before .before .before .before .before .before .before .before .before .before .before .before .before .before .before .before .before .before .before .pre in
-    let args = c .before .before .before .before .before .before .before .before .before .before .before .before .before .before .before .before .before .before .before .before .before .before .before .before .before .args in
+    let back = c .before .before .before .before .before .before .before .before in
+    let far = back .before .before .before .before .before .before .before .before in
+    let further = far .before .before .before .before .before .before .before .before in
+    let rows-size = back .before .before .before .before .rows-size in
+    let statement-size = back .before .before .before .before .before .statement-size in
+    let pre = further .before .pre in
+    let args = further .before .args in
     let sum = rows-sum (args .numbers .now) (args .objectors .now) (args .targets .now) (args .labels .now) (args .lengths .now)
     (args .inside .now) (args .x) _ _
     (statement-size .ensures) (rows-size .ensures) in
@@ -117,11 +125,14 @@ same-length c = search needs
 
 returns-2 : tie.Need-returns-2
 returns-2 c =
+    let back = c .before .before .before .before .before .before .before .before in
+    let far = back .before .before .before .before .before .before .before .before in
+    let further = far .before .before .before .before .before .before .before .before in
     let put-statement = c .before .before .before .before .before .before .put-statement in
-    let if1 = c .before .before .before .before .before .before .before .before .before .before .before .if1 in
-    let rows-size = c .before .before .before .before .before .before .before .before .before .before .before .before .rows-size in
-    let statement-size = c .before .before .before .before .before .before .before .before .before .before .before .before .before .statement-size in
-    let args = c .before .before .before .before .before .before .before .before .before .before .before .before .before .before .before .before .before .before .before .before .before .before .before .before .before .args in
+    let if1 = back .before .before .before .if1 in
+    let rows-size = back .before .before .before .before .rows-size in
+    let statement-size = back .before .before .before .before .before .statement-size in
+    let args = further .before .args in
     let sum = rows-sum (args .numbers .now) (args .objectors .now) (args .targets .now) (args .labels .now) (args .lengths .now)
     (args .inside .now) (args .x) _ _
     (statement-size .ensures) (rows-size .ensures) in (

@@ -44,11 +44,13 @@ same-length-2 c = search needs
 
 returns-2 : tie.Need-returns-2
 returns-2 c =
-    let args = c .before .before .before .before .before .before .before .before .before .before .before .before .before .before .before .before .before .args in
+    let back = c .before .before .before .before .before .before .before .before in
+    let far = back .before .before .before .before .before .before .before .before in
+    let args = far .before .args in
     let update-rooms = c .before .before .before .before .update-rooms in
     let lent : List ℕ × List ℕ = (args .sheet .now, args .totals .now) in
-    let reading2 = c .before .before .before .before .before .before .before .before .before .reading2 in
-    let label-text = c .before .before .before .before .before .before .before .before .before .before .before .before .label-text in
+    let reading2 = back .before .reading2 in
+    let label-text = back .before .before .before .before .label-text in
     let whole = rw (reading2 .given .1) at (label-text .ensures) in
     on-promised (text-apart (args .text .now)) (λ R. UpdateRefused (book R) lent) (λ R. UpdatedIn (book R) lent) (whole .0)
     (whole .1) lent (update-rooms .result) (update-rooms .last .1 .1 .0, update-rooms .last .1 .1 .1 .0)

@@ -69,8 +69,10 @@ slice-aggregate-stands-within-4 c = search needs
 
 stands-within-requires : tie.Need-stands-within-requires
 stands-within-requires c κs =
-    let pre = c .before .before .before .before .before .before .before .before .before .before .before .before .before .before .before .before .before .before .before .before .pre in
-    let chain = c .before .before .before .before .before .before .before .before .before .before .before .before .before .before .chain in
+    let back = c .before .before .before .before .before .before .before .before in
+    let far = back .before .before .before .before .before .before .before .before in
+    let pre = far .before .before .before .before .pre in
+    let chain = back .before .before .before .before .before .before .chain in
     let falls-within = c .before .before .before .before .before .before .before .falls-within in (
       ((pre .0, record { chained = chain .ensures; head-room = search needs; next-room = search needs }), pre .1, pre .2),
       falls-within .ensures .1,

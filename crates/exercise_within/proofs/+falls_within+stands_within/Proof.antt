@@ -277,9 +277,11 @@ falls-within-stands-within-requires : (t : ℕ) → falls-within-lts.Need-stands
   stands-within.Post,
 ) (falls-within-at t) falls-within.Post falls-within-Inv-loop falls-within-μ-loop
 falls-within-stands-within-requires t c κs =
-    let pre = c .before .before .before .before .before .before .before .before .before .before .before .before .before .before .before .before .before .before .before .before .before .pre in
-    let args = c .before .before .before .before .before .before .before .before .before .before .before .before .before .before .before .before .before .before .before .before .before .args in
-    let if1 = c .before .before .before .before .before .before .before .before .before .before .before .before .before .if1 in
+    let back = c .before .before .before .before .before .before .before .before in
+    let far = back .before .before .before .before .before .before .before .before in
+    let pre = far .before .before .before .before .before .pre in
+    let args = far .before .before .before .before .before .args in
+    let if1 = back .before .before .before .before .before .if1 in
     let loop = c .before .before .before .before .before .before .before .loop in
     let loop-test = c .before .before .before .before .before .before .loop-test in (
       omega (arith, pre .0, if1 .left),
@@ -303,8 +305,11 @@ falls-within-slice-write-falls : (t : ℕ) → falls-within-lts.Need-slice-write
   stands-within.Post,
 ) (falls-within-at t) falls-within.Post falls-within-Inv-loop falls-within-μ-loop
 falls-within-slice-write-falls t c =
-    let args = c .before .before .before .before .before .before .before .before .before .before .before .before .before .before .before .before .before .before .before .before .before .before .before .before .before .before .before .args in
-    let pre = c .before .before .before .before .before .before .before .before .before .before .before .before .before .before .before .before .before .before .before .before .before .before .before .before .before .before .before .pre in
+    let back = c .before .before .before .before .before .before .before .before in
+    let far = back .before .before .before .before .before .before .before .before in
+    let further = far .before .before .before .before .before .before .before .before in
+    let args = further .before .before .before .args in
+    let pre = further .before .before .before .pre in
     let stands-within = c .before .before .before .before .before .stands-within in
     falls-slot (args .x) (args .turns) (pre .1 .0) (stands-within .ensures .1)
 
@@ -317,7 +322,10 @@ falls-within-same-length : (t : ℕ) → falls-within-lts.Need-same-length (
   stands-within.Post,
 ) (falls-within-at t) falls-within.Post falls-within-Inv-loop falls-within-μ-loop
 falls-within-same-length t c =
-    let pre = c .before .before .before .before .before .before .before .before .before .before .before .before .before .before .before .before .before .before .before .before .before .before .before .before .before .before .before .pre in
+    let back = c .before .before .before .before .before .before .before .before in
+    let far = back .before .before .before .before .before .before .before .before in
+    let further = far .before .before .before .before .before .before .before .before in
+    let pre = further .before .before .before .pre in
     let stands-within = c .before .before .before .before .before .stands-within in
     set-room _ _ _ _ _ (stands-within .ensures .1 .fell) (pre .1 .1 .fell)
 
@@ -330,7 +338,10 @@ falls-within-same-length-2 : (t : ℕ) → falls-within-lts.Need-same-length-2 (
   stands-within.Post,
 ) (falls-within-at t) falls-within.Post falls-within-Inv-loop falls-within-μ-loop
 falls-within-same-length-2 t c =
-    let pre = c .before .before .before .before .before .before .before .before .before .before .before .before .before .before .before .before .before .before .before .before .before .before .before .before .before .before .before .pre in
+    let back = c .before .before .before .before .before .before .before .before in
+    let far = back .before .before .before .before .before .before .before .before in
+    let further = far .before .before .before .before .before .before .before .before in
+    let pre = further .before .before .before .pre in
     let stands-within = c .before .before .before .before .before .stands-within in
     same-room _ _ _ (stands-within .ensures .1 .stood) (pre .1 .1 .stood)
 
@@ -343,12 +354,15 @@ falls-within-returns-4 : (t : ℕ) → falls-within-lts.Need-returns-4 (
   stands-within.Post,
 ) (falls-within-at t) falls-within.Post falls-within-Inv-loop falls-within-μ-loop
 falls-within-returns-4 t c =
-    let args = c .before .before .before .before .before .before .before .before .before .before .before .before .before .before .before .before .before .before .before .before .before .before .before .before .before .before .before .args in
-    let pre = c .before .before .before .before .before .before .before .before .before .before .before .before .before .before .before .before .before .before .before .before .before .before .before .before .before .before .before .pre in
-    let if1 = c .before .before .before .before .before .before .before .before .before .before .before .before .before .before .before .before .before .before .before .if1 in
-    let loop = c .before .before .before .before .before .before .before .before .before .before .before .before .before .loop in
-    let loop-test = c .before .before .before .before .before .before .before .before .before .before .before .before .loop-test in
-    let place = c .before .before .before .before .before .before .before .before .before .before .place in
+    let back = c .before .before .before .before .before .before .before .before in
+    let far = back .before .before .before .before .before .before .before .before in
+    let further = far .before .before .before .before .before .before .before .before in
+    let args = further .before .before .before .args in
+    let pre = further .before .before .before .pre in
+    let if1 = far .before .before .before .if1 in
+    let loop = back .before .before .before .before .before .loop in
+    let loop-test = back .before .before .before .before .loop-test in
+    let place = back .before .before .place in
     let stands-within = c .before .before .before .before .before .stands-within in
     falls-found (args .x) (args .turns) (pre .1 .0) (stands-within .ensures .1) (if1 .left) (loop .c) (loop .inv .0)
     (loop-test .taken) _ _ (place .ensures) (stands-within .ensures .0) (c .if4 .taken)
@@ -362,11 +376,14 @@ falls-within-loop-less : (t : ℕ) → falls-within-lts.Need-loop-less (
   stands-within.Post,
 ) (falls-within-at t) falls-within.Post falls-within-Inv-loop falls-within-μ-loop
 falls-within-loop-less t c =
-    let args = c .before .before .before .before .before .before .before .before .before .before .before .before .before .before .before .before .before .before .before .before .before .before .before .before .before .before .before .args in
-    let pre = c .before .before .before .before .before .before .before .before .before .before .before .before .before .before .before .before .before .before .before .before .before .before .before .before .before .before .before .pre in
-    let loop = c .before .before .before .before .before .before .before .before .before .before .before .before .before .loop in
-    let loop-test = c .before .before .before .before .before .before .before .before .before .before .before .before .loop-test in
-    let wide2 = c .before .before .before .before .before .before .before .before .wide2 in
+    let back = c .before .before .before .before .before .before .before .before in
+    let far = back .before .before .before .before .before .before .before .before in
+    let further = far .before .before .before .before .before .before .before .before in
+    let args = further .before .before .before .args in
+    let pre = further .before .before .before .pre in
+    let loop = back .before .before .before .before .before .loop in
+    let loop-test = back .before .before .before .before .loop-test in
+    let wide2 = back .wide2 in
     walk-lower (pre .1 .0 .0 .1 .chained) (loop .inv .0) (loop-test .taken) (wide2 .ensures)
 
 falls-within-loop-again : (t : ℕ) → falls-within-lts.Need-loop-again (
@@ -378,13 +395,16 @@ falls-within-loop-again : (t : ℕ) → falls-within-lts.Need-loop-again (
   stands-within.Post,
 ) (falls-within-at t) falls-within.Post falls-within-Inv-loop falls-within-μ-loop
 falls-within-loop-again t c =
-    let args = c .before .before .before .before .before .before .before .before .before .before .before .before .before .before .before .before .before .before .before .before .before .before .before .before .before .before .before .args in
-    let pre = c .before .before .before .before .before .before .before .before .before .before .before .before .before .before .before .before .before .before .before .before .before .before .before .before .before .before .before .pre in
-    let if1 = c .before .before .before .before .before .before .before .before .before .before .before .before .before .before .before .before .before .before .before .if1 in
-    let loop = c .before .before .before .before .before .before .before .before .before .before .before .before .before .loop in
-    let loop-test = c .before .before .before .before .before .before .before .before .before .before .before .before .loop-test in
-    let place = c .before .before .before .before .before .before .before .before .before .before .place in
-    let wide2 = c .before .before .before .before .before .before .before .before .wide2 in
+    let back = c .before .before .before .before .before .before .before .before in
+    let far = back .before .before .before .before .before .before .before .before in
+    let further = far .before .before .before .before .before .before .before .before in
+    let args = further .before .before .before .args in
+    let pre = further .before .before .before .pre in
+    let if1 = far .before .before .before .if1 in
+    let loop = back .before .before .before .before .before .loop in
+    let loop-test = back .before .before .before .before .loop-test in
+    let place = back .before .before .place in
+    let wide2 = back .wide2 in
     let stands-within = c .before .before .before .before .before .stands-within in
     falls-goes-on (args .x) (args .turns) (pre .1 .0) (stands-within .ensures .1) (if1 .left) (loop .c) (loop .inv .0)
     (loop-test .taken) _ _ (place .ensures) (stands-within .ensures .0) (c .if4 .left) (wide2 .ensures)
@@ -398,8 +418,9 @@ falls-within-slice-write-falls-2 : (t : ℕ) → falls-within-lts.Need-slice-wri
   stands-within.Post,
 ) (falls-within-at t) falls-within.Post falls-within-Inv-loop falls-within-μ-loop
 falls-within-slice-write-falls-2 t c =
-    let args = c .before .before .before .before .before .before .before .before .before .before .before .before .before .before .before .args in
-    let pre = c .before .before .before .before .before .before .before .before .before .before .before .before .before .before .before .pre in
+    let back = c .before .before .before .before .before .before .before .before in
+    let args = back .before .before .before .before .before .before .before .args in
+    let pre = back .before .before .before .before .before .before .before .pre in
     falls-slot (args .x) (args .turns) (pre .1 .0) (c .before .loop .inv .1)
 
 falls-within-same-length-3 : (t : ℕ) → falls-within-lts.Need-same-length-3 (
@@ -411,7 +432,8 @@ falls-within-same-length-3 : (t : ℕ) → falls-within-lts.Need-same-length-3 (
   stands-within.Post,
 ) (falls-within-at t) falls-within.Post falls-within-Inv-loop falls-within-μ-loop
 falls-within-same-length-3 t c =
-    let pre = c .before .before .before .before .before .before .before .before .before .before .before .before .before .before .before .pre in
+    let back = c .before .before .before .before .before .before .before .before in
+    let pre = back .before .before .before .before .before .before .before .pre in
     set-room _ _ _ _ _ (c .before .loop .inv .1 .fell) (pre .1 .1 .fell)
 
 falls-within-same-length-4 : (t : ℕ) → falls-within-lts.Need-same-length-4 (
@@ -423,7 +445,8 @@ falls-within-same-length-4 : (t : ℕ) → falls-within-lts.Need-same-length-4 (
   stands-within.Post,
 ) (falls-within-at t) falls-within.Post falls-within-Inv-loop falls-within-μ-loop
 falls-within-same-length-4 t c =
-    let pre = c .before .before .before .before .before .before .before .before .before .before .before .before .before .before .before .pre in
+    let back = c .before .before .before .before .before .before .before .before in
+    let pre = back .before .before .before .before .before .before .before .pre in
     same-room _ _ _ (c .before .loop .inv .1 .stood) (pre .1 .1 .stood)
 
 falls-within-returns-5 : (t : ℕ) → falls-within-lts.Need-returns-5 (
@@ -435,8 +458,9 @@ falls-within-returns-5 : (t : ℕ) → falls-within-lts.Need-returns-5 (
   stands-within.Post,
 ) (falls-within-at t) falls-within.Post falls-within-Inv-loop falls-within-μ-loop
 falls-within-returns-5 t c =
-    let args = c .before .before .before .before .before .before .before .before .before .before .before .before .before .before .before .args in
-    let pre = c .before .before .before .before .before .before .before .before .before .before .before .before .before .before .before .pre in
+    let back = c .before .before .before .before .before .before .before .before in
+    let args = back .before .before .before .before .before .before .before .args in
+    let pre = back .before .before .before .before .before .before .before .pre in
     let if1 = c .before .before .before .before .before .before .before .if1 in
     falls-ends (args .x) (args .turns) (pre .1 .0) (c .before .loop .inv .1) (if1 .left) (c .before .loop .c)
     (c .before .loop .inv .0) (c .loop-test .left)
@@ -581,7 +605,9 @@ stands-within-same-length : (t : ℕ) → stands-within-lts.Need-same-length (
   falls-within.Post,
 ) (stands-within-at t) stands-within.Post stands-within-Inv-loop stands-within-μ-loop
 stands-within-same-length t c =
-    let pre = c .before .before .before .before .before .before .before .before .before .before .before .before .before .before .before .before .before .pre in
+    let back = c .before .before .before .before .before .before .before .before in
+    let far = back .before .before .before .before .before .before .before .before in
+    let pre = far .before .pre in
     same-room _ _ _ (c .before .before .loop .inv .1 .fell) (pre .1 .1 .fell)
 
 stands-within-same-length-2 : (t : ℕ) → stands-within-lts.Need-same-length-2 (
@@ -593,7 +619,9 @@ stands-within-same-length-2 : (t : ℕ) → stands-within-lts.Need-same-length-2
   falls-within.Post,
 ) (stands-within-at t) stands-within.Post stands-within-Inv-loop stands-within-μ-loop
 stands-within-same-length-2 t c =
-    let pre = c .before .before .before .before .before .before .before .before .before .before .before .before .before .before .before .before .before .pre in
+    let back = c .before .before .before .before .before .before .before .before in
+    let far = back .before .before .before .before .before .before .before .before in
+    let pre = far .before .pre in
     same-room _ _ _ (c .before .before .loop .inv .1 .stood) (pre .1 .1 .stood)
 
 stands-within-returns-4 : (t : ℕ) → stands-within-lts.Need-returns-4 (
@@ -605,8 +633,10 @@ stands-within-returns-4 : (t : ℕ) → stands-within-lts.Need-returns-4 (
   falls-within.Post,
 ) (stands-within-at t) stands-within.Post stands-within-Inv-loop stands-within-μ-loop
 stands-within-returns-4 t c =
-    let args = c .before .before .before .before .before .before .before .before .before .before .before .before .before .before .before .before .before .args in
-    let pre = c .before .before .before .before .before .before .before .before .before .before .before .before .before .before .before .before .before .pre in
+    let back = c .before .before .before .before .before .before .before .before in
+    let far = back .before .before .before .before .before .before .before .before in
+    let args = far .before .args in
+    let pre = far .before .pre in
     let loop = c .before .before .loop in
     stands-too-late (args .x) (args .turns) (pre .1 .0) (loop .inv .1) (loop .c) (loop .inv .0) (c .before .loop-test .taken)
     (c .if4 .taken)
@@ -710,9 +740,11 @@ stands-within-falls-within-requires : (t : ℕ) → stands-within-lts.Need-falls
   falls-within.Post,
 ) (stands-within-at t) stands-within.Post stands-within-Inv-loop stands-within-μ-loop
 stands-within-falls-within-requires t c κs =
-    let pre = c .before .before .before .before .before .before .before .before .before .before .before .before .before .before .before .before .before .before .before .before .before .before .before .pre in
-    let args = c .before .before .before .before .before .before .before .before .before .before .before .before .before .before .before .before .before .before .before .before .before .before .before .args in
-    let loop = c .before .before .before .before .before .before .before .before .loop in
+    let back = c .before .before .before .before .before .before .before .before in
+    let far = back .before .before .before .before .before .before .before .before in
+    let pre = far .before .before .before .before .before .before .before .pre in
+    let args = far .before .before .before .before .before .before .before .args in
+    let loop = back .loop in
     let loop-test = c .before .before .before .before .before .before .before .loop-test in
     let if4 = c .before .before .before .before .before .before .if4 in (
       omega (arith, pre .0, if4 .left),
@@ -736,8 +768,11 @@ stands-within-slice-write-stands : (t : ℕ) → stands-within-lts.Need-slice-wr
   falls-within.Post,
 ) (stands-within-at t) stands-within.Post stands-within-Inv-loop stands-within-μ-loop
 stands-within-slice-write-stands t c =
-    let args = c .before .before .before .before .before .before .before .before .before .before .before .before .before .before .before .before .before .before .before .before .before .before .before .before .before .before .before .before .before .args in
-    let pre = c .before .before .before .before .before .before .before .before .before .before .before .before .before .before .before .before .before .before .before .before .before .before .before .before .before .before .before .before .before .pre in
+    let back = c .before .before .before .before .before .before .before .before in
+    let far = back .before .before .before .before .before .before .before .before in
+    let further = far .before .before .before .before .before .before .before .before in
+    let args = further .before .before .before .before .before .args in
+    let pre = further .before .before .before .before .before .pre in
     let falls-within = c .before .before .before .before .before .falls-within in
     stands-slot (args .x) (args .turns) (pre .1 .0) (falls-within .ensures .1)
 
@@ -750,7 +785,10 @@ stands-within-same-length-3 : (t : ℕ) → stands-within-lts.Need-same-length-3
   falls-within.Post,
 ) (stands-within-at t) stands-within.Post stands-within-Inv-loop stands-within-μ-loop
 stands-within-same-length-3 t c =
-    let pre = c .before .before .before .before .before .before .before .before .before .before .before .before .before .before .before .before .before .before .before .before .before .before .before .before .before .before .before .before .before .pre in
+    let back = c .before .before .before .before .before .before .before .before in
+    let far = back .before .before .before .before .before .before .before .before in
+    let further = far .before .before .before .before .before .before .before .before in
+    let pre = further .before .before .before .before .before .pre in
     let falls-within = c .before .before .before .before .before .falls-within in
     same-room _ _ _ (falls-within .ensures .1 .fell) (pre .1 .1 .fell)
 
@@ -763,7 +801,10 @@ stands-within-same-length-4 : (t : ℕ) → stands-within-lts.Need-same-length-4
   falls-within.Post,
 ) (stands-within-at t) stands-within.Post stands-within-Inv-loop stands-within-μ-loop
 stands-within-same-length-4 t c =
-    let pre = c .before .before .before .before .before .before .before .before .before .before .before .before .before .before .before .before .before .before .before .before .before .before .before .before .before .before .before .before .before .pre in
+    let back = c .before .before .before .before .before .before .before .before in
+    let far = back .before .before .before .before .before .before .before .before in
+    let further = far .before .before .before .before .before .before .before .before in
+    let pre = further .before .before .before .before .before .pre in
     let falls-within = c .before .before .before .before .before .falls-within in
     set-room _ _ _ _ _ (falls-within .ensures .1 .stood) (pre .1 .1 .stood)
 
@@ -776,12 +817,15 @@ stands-within-returns-5 : (t : ℕ) → stands-within-lts.Need-returns-5 (
   falls-within.Post,
 ) (stands-within-at t) stands-within.Post stands-within-Inv-loop stands-within-μ-loop
 stands-within-returns-5 t c =
-    let args = c .before .before .before .before .before .before .before .before .before .before .before .before .before .before .before .before .before .before .before .before .before .before .before .before .before .before .before .before .before .args in
-    let pre = c .before .before .before .before .before .before .before .before .before .before .before .before .before .before .before .before .before .before .before .before .before .before .before .before .before .before .before .before .before .pre in
-    let loop = c .before .before .before .before .before .before .before .before .before .before .before .before .before .before .loop in
-    let loop-test = c .before .before .before .before .before .before .before .before .before .before .before .before .before .loop-test in
-    let if4 = c .before .before .before .before .before .before .before .before .before .before .before .before .if4 in
-    let place = c .before .before .before .before .before .before .before .before .before .before .place in
+    let back = c .before .before .before .before .before .before .before .before in
+    let far = back .before .before .before .before .before .before .before .before in
+    let further = far .before .before .before .before .before .before .before .before in
+    let args = further .before .before .before .before .before .args in
+    let pre = further .before .before .before .before .before .pre in
+    let loop = back .before .before .before .before .before .before .loop in
+    let loop-test = back .before .before .before .before .before .loop-test in
+    let if4 = back .before .before .before .before .if4 in
+    let place = back .before .before .place in
     let falls-within = c .before .before .before .before .before .falls-within in
     stands-lost (args .x) (args .turns) (pre .1 .0) (falls-within .ensures .1) (loop .c) (loop .inv .0) (loop-test .taken)
     (if4 .left) _ _ (place .ensures) (falls-within .ensures .0) (not-true _ (c .if5 .taken))
@@ -795,11 +839,14 @@ stands-within-loop-less : (t : ℕ) → stands-within-lts.Need-loop-less (
   falls-within.Post,
 ) (stands-within-at t) stands-within.Post stands-within-Inv-loop stands-within-μ-loop
 stands-within-loop-less t c =
-    let args = c .before .before .before .before .before .before .before .before .before .before .before .before .before .before .before .before .before .before .before .before .before .before .before .before .before .before .before .before .before .args in
-    let pre = c .before .before .before .before .before .before .before .before .before .before .before .before .before .before .before .before .before .before .before .before .before .before .before .before .before .before .before .before .before .pre in
-    let loop = c .before .before .before .before .before .before .before .before .before .before .before .before .before .before .loop in
-    let loop-test = c .before .before .before .before .before .before .before .before .before .before .before .before .before .loop-test in
-    let wide2 = c .before .before .before .before .before .before .before .before .wide2 in
+    let back = c .before .before .before .before .before .before .before .before in
+    let far = back .before .before .before .before .before .before .before .before in
+    let further = far .before .before .before .before .before .before .before .before in
+    let args = further .before .before .before .before .before .args in
+    let pre = further .before .before .before .before .before .pre in
+    let loop = back .before .before .before .before .before .before .loop in
+    let loop-test = back .before .before .before .before .before .loop-test in
+    let wide2 = back .wide2 in
     walk-lower (pre .1 .0 .0 .1 .chained) (loop .inv .0) (loop-test .taken) (wide2 .ensures)
 
 stands-within-loop-again : (t : ℕ) → stands-within-lts.Need-loop-again (
@@ -811,13 +858,16 @@ stands-within-loop-again : (t : ℕ) → stands-within-lts.Need-loop-again (
   falls-within.Post,
 ) (stands-within-at t) stands-within.Post stands-within-Inv-loop stands-within-μ-loop
 stands-within-loop-again t c =
-    let args = c .before .before .before .before .before .before .before .before .before .before .before .before .before .before .before .before .before .before .before .before .before .before .before .before .before .before .before .before .before .args in
-    let pre = c .before .before .before .before .before .before .before .before .before .before .before .before .before .before .before .before .before .before .before .before .before .before .before .before .before .before .before .before .before .pre in
-    let loop = c .before .before .before .before .before .before .before .before .before .before .before .before .before .before .loop in
-    let loop-test = c .before .before .before .before .before .before .before .before .before .before .before .before .before .loop-test in
-    let if4 = c .before .before .before .before .before .before .before .before .before .before .before .before .if4 in
-    let place = c .before .before .before .before .before .before .before .before .before .before .place in
-    let wide2 = c .before .before .before .before .before .before .before .before .wide2 in
+    let back = c .before .before .before .before .before .before .before .before in
+    let far = back .before .before .before .before .before .before .before .before in
+    let further = far .before .before .before .before .before .before .before .before in
+    let args = further .before .before .before .before .before .args in
+    let pre = further .before .before .before .before .before .pre in
+    let loop = back .before .before .before .before .before .before .loop in
+    let loop-test = back .before .before .before .before .before .loop-test in
+    let if4 = back .before .before .before .before .if4 in
+    let place = back .before .before .place in
+    let wide2 = back .wide2 in
     let falls-within = c .before .before .before .before .before .falls-within in
     stands-goes-on (args .x) (args .turns) (pre .1 .0) (falls-within .ensures .1) (loop .c) (loop .inv .0) (loop-test .taken)
     (if4 .left) _ _ (place .ensures) (falls-within .ensures .0) (not-false _ (c .if5 .left)) (wide2 .ensures)
@@ -831,8 +881,10 @@ stands-within-slice-write-stands-2 : (t : ℕ) → stands-within-lts.Need-slice-
   falls-within.Post,
 ) (stands-within-at t) stands-within.Post stands-within-Inv-loop stands-within-μ-loop
 stands-within-slice-write-stands-2 t c =
-    let args = c .before .before .before .before .before .before .before .before .before .before .before .before .before .before .before .before .args in
-    let pre = c .before .before .before .before .before .before .before .before .before .before .before .before .before .before .before .before .pre in
+    let back = c .before .before .before .before .before .before .before .before in
+    let far = back .before .before .before .before .before .before .before .before in
+    let args = far .args in
+    let pre = far .pre in
     stands-slot (args .x) (args .turns) (pre .1 .0) (c .before .loop .inv .1)
 
 stands-within-same-length-5 : (t : ℕ) → stands-within-lts.Need-same-length-5 (
@@ -844,7 +896,9 @@ stands-within-same-length-5 : (t : ℕ) → stands-within-lts.Need-same-length-5
   falls-within.Post,
 ) (stands-within-at t) stands-within.Post stands-within-Inv-loop stands-within-μ-loop
 stands-within-same-length-5 t c =
-    let pre = c .before .before .before .before .before .before .before .before .before .before .before .before .before .before .before .before .pre in
+    let back = c .before .before .before .before .before .before .before .before in
+    let far = back .before .before .before .before .before .before .before .before in
+    let pre = far .pre in
     same-room _ _ _ (c .before .loop .inv .1 .fell) (pre .1 .1 .fell)
 
 stands-within-same-length-6 : (t : ℕ) → stands-within-lts.Need-same-length-6 (
@@ -856,7 +910,9 @@ stands-within-same-length-6 : (t : ℕ) → stands-within-lts.Need-same-length-6
   falls-within.Post,
 ) (stands-within-at t) stands-within.Post stands-within-Inv-loop stands-within-μ-loop
 stands-within-same-length-6 t c =
-    let pre = c .before .before .before .before .before .before .before .before .before .before .before .before .before .before .before .before .pre in
+    let back = c .before .before .before .before .before .before .before .before in
+    let far = back .before .before .before .before .before .before .before .before in
+    let pre = far .pre in
     set-room _ _ _ _ _ (c .before .loop .inv .1 .stood) (pre .1 .1 .stood)
 
 stands-within-returns-6 : (t : ℕ) → stands-within-lts.Need-returns-6 (
@@ -868,8 +924,10 @@ stands-within-returns-6 : (t : ℕ) → stands-within-lts.Need-returns-6 (
   falls-within.Post,
 ) (stands-within-at t) stands-within.Post stands-within-Inv-loop stands-within-μ-loop
 stands-within-returns-6 t c =
-    let args = c .before .before .before .before .before .before .before .before .before .before .before .before .before .before .before .before .args in
-    let pre = c .before .before .before .before .before .before .before .before .before .before .before .before .before .before .before .before .pre in
+    let back = c .before .before .before .before .before .before .before .before in
+    let far = back .before .before .before .before .before .before .before .before in
+    let args = far .args in
+    let pre = far .pre in
     let if1 = c .before .before .before .before .before .before .before .if1 in
     stands-ends (args .x) (args .turns) (pre .1 .0) (c .before .loop .inv .1) (c .before .loop .c) (c .before .loop .inv .0)
     (if1 .left) (c .loop-test .left)

@@ -38,36 +38,39 @@ slice-aggregate-start-2 : tie.Need-slice-aggregate-start-2
 slice-aggregate-start-2 c = search needs
 
 start-requires : tie.Need-start-requires
-start-requires c κs = (
-  c .before .before .before .before .before .before .before .before .before .before .before .before .before .before .before .before .before .before .before .before .before .before .before .before .pre .0,
-  (
-    record {
-      labels-room = c .before .before .before .before .before .before .before .before .blank .kept .1 .0
-          ∙
-          c .before .before .before .before .before .before .before .before .before .before .before .before .before .before .before .before .before .before .before .before .before .before .before .before .pre .1 .labels-room;
-      lengths-room = c .before .before .before .before .before .before .before .before .blank .kept .1 .1 .0
-          ∙
-          c .before .before .before .before .before .before .before .before .before .before .before .before .before .before .before .before .before .before .before .before .before .before .before .before .pre .1 .lengths-room;
-    },
-    (
+start-requires c κs =
+    let back = c .before .before .before .before .before .before .before .before in
+    let far = back .before .before .before .before .before .before .before .before in
+    let further = far .before .before .before .before .before .before .before .before in (
+      further .pre .0,
       (
-        omega (
-          arith,
-          c .before .before .before .before .before .before .before .before .before .before .before .before .count .kept .1 .1 .1 .0,
-          c .before .before .before .before .before .before .before .before .before .before .before .before .before .before .before .before .before .before .before .before .before .before .before .before .pre .0 .few-marks,
-        ),
-        omega (
-          arith,
-          c .before .before .before .before .before .before .before .before .before .before .before .before .before .before .before .before .before .before .before .before .before .before .before .before .pre .0 .few-marks,
+        record {
+          labels-room = back .blank .kept .1 .0
+              ∙
+              further .pre .1 .labels-room;
+          lengths-room = back .blank .kept .1 .1 .0
+              ∙
+              further .pre .1 .lengths-room;
+        },
+        (
+          (
+            omega (
+              arith,
+              back .before .before .before .before .count .kept .1 .1 .1 .0,
+              further .pre .0 .few-marks,
+            ),
+            omega (
+              arith,
+              further .pre .0 .few-marks,
+            ),
+          ),
+          (
+            back .before .before .before .before .count .ensures,
+            back .blank .ensures,
+          ),
         ),
       ),
-      (
-        c .before .before .before .before .before .before .before .before .before .before .before .before .count .ensures,
-        c .before .before .before .before .before .before .before .before .blank .ensures,
-      ),
-    ),
-  ),
-)
+    )
 
 slice-aggregate-run : tie.Need-slice-aggregate-run
 slice-aggregate-run c = search needs

@@ -39,7 +39,8 @@ wide-requires c κs = search needs
 
 slice-read-if1 : tie.Need-slice-read-if1 Inv-loop μ-loop
 slice-read-if1 c =
-    let pre = c .before .before .before .before .before .before .before .before .before .before .before .before .before .before .pre in
+    let back = c .before .before .before .before .before .before .before .before in
+    let pre = back .before .before .before .before .before .before .pre in
     let loop = c .before .before .before .before .loop in
     omega (
       arith,
@@ -81,20 +82,27 @@ fell-targets-requires c κs =
 
 add-h : tie.Need-add-h Inv-loop μ-loop
 add-h c =
-    let pre = c .before .before .before .before .before .before .before .before .before .before .before .before .before .before .before .before .before .before .before .before .before .before .before .before .before .before .pre in
-    let loop = c .before .before .before .before .before .before .before .before .before .before .before .before .before .before .before .before .loop in
-    let loop-test = c .before .before .before .before .before .before .before .before .before .before .before .before .before .before .before .loop-test in
+    let back = c .before .before .before .before .before .before .before .before in
+    let far = back .before .before .before .before .before .before .before .before in
+    let further = far .before .before .before .before .before .before .before .before in
+    let pre = further .before .before .pre in
+    let loop = far .loop in
+    let loop-test = back .before .before .before .before .before .before .before .loop-test in
     omega (arith, loop .inv .0 .run .full, loop-test .taken, pre .0 .few-marks)
 
 loop-less : tie.Need-loop-less Inv-loop μ-loop
 loop-less c =
-    let loop = c .before .before .before .before .before .before .before .before .before .before .before .before .before .before .before .before .loop in
-    let loop-test = c .before .before .before .before .before .before .before .before .before .before .before .before .before .before .before .loop-test in
+    let back = c .before .before .before .before .before .before .before .before in
+    let far = back .before .before .before .before .before .before .before .before in
+    let loop = far .loop in
+    let loop-test = back .before .before .before .before .before .before .before .loop-test in
     omega (arith, loop .inv .0 .run .full, loop-test .taken)
 
 loop-again : tie.Need-loop-again Inv-loop μ-loop
 loop-again c =
-    let loop = c .before .before .before .before .before .before .before .before .before .before .before .before .before .before .before .before .loop in
+    let back = c .before .before .before .before .before .before .before .before in
+    let far = back .before .before .before .before .before .before .before .before in
+    let loop = far .loop in
     let fell-targets = c .before .before .before .before .before .before .fell-targets in (
       fell-targets .ensures,
       fell-targets .kept .1 .1 .1 .1 .1 .1 .0 ∙ loop .inv .1,
@@ -136,21 +144,28 @@ stand-targets-requires c κs =
 
 add-h-2 : tie.Need-add-h-2 Inv-loop μ-loop
 add-h-2 c =
-    let pre = c .before .before .before .before .before .before .before .before .before .before .before .before .before .before .before .before .before .before .before .before .before .before .before .before .before .before .before .before .pre in
-    let loop = c .before .before .before .before .before .before .before .before .before .before .before .before .before .before .before .before .before .before .loop in
-    let loop-test = c .before .before .before .before .before .before .before .before .before .before .before .before .before .before .before .before .before .loop-test in
+    let back = c .before .before .before .before .before .before .before .before in
+    let far = back .before .before .before .before .before .before .before .before in
+    let further = far .before .before .before .before .before .before .before .before in
+    let pre = further .before .before .before .before .pre in
+    let loop = far .before .before .loop in
+    let loop-test = far .before .loop-test in
     omega (arith, loop .inv .0 .run .full, loop-test .taken, pre .0 .few-marks)
 
 loop-less-2 : tie.Need-loop-less-2 Inv-loop μ-loop
 loop-less-2 c =
-    let loop = c .before .before .before .before .before .before .before .before .before .before .before .before .before .before .before .before .before .before .loop in
-    let loop-test = c .before .before .before .before .before .before .before .before .before .before .before .before .before .before .before .before .before .loop-test in
+    let back = c .before .before .before .before .before .before .before .before in
+    let far = back .before .before .before .before .before .before .before .before in
+    let loop = far .before .before .loop in
+    let loop-test = far .before .loop-test in
     omega (arith, loop .inv .0 .run .full, loop-test .taken)
 
 loop-again-2 : tie.Need-loop-again-2 Inv-loop μ-loop
 loop-again-2 c =
-    let loop = c .before .before .before .before .before .before .before .before .before .before .before .before .before .before .before .before .before .before .loop in
-    let stand-targets = c .before .before .before .before .before .before .before .before .stand-targets in (
+    let back = c .before .before .before .before .before .before .before .before in
+    let far = back .before .before .before .before .before .before .before .before in
+    let loop = far .before .before .loop in
+    let stand-targets = back .stand-targets in (
       stand-targets .ensures,
       stand-targets .kept .1 .1 .1 .1 .1 .1 .0 ∙ loop .inv .1,
       stand-targets .kept .1 .1 .1 .1 .1 .1 .1 .0 ∙ loop .inv .2,

@@ -85,7 +85,8 @@ wide-requires-2 c κs = search needs
 
 loop-holds : tie.Need-loop-holds Inv-loop μ-loop
 loop-holds c =
-    let pre = c .before .before .before .before .before .before .before .before .before .before .before .before .before .before .pre in (
+    let back = c .before .before .before .before .before .before .before .before in
+    let pre = back .before .before .before .before .before .before .pre in (
       enter _ _ _ (pre .0) _ _ _ _ _ _ _ _ _ _ _ _ _ _ (pre .1 .1 .1 .0) (pre .1 .1 .1 .1 .0 .run) (pre .1 .1 .1 .1 .1)
           (pre .1 .1 .1 .1 .2) (c .before .before .before .wide .ensures) (c .wide2 .ensures),
       refl,
@@ -98,12 +99,16 @@ sub-place c = omega (arith, c .loop-test .taken)
 
 mul-place : tie.Need-mul-place Inv-loop μ-loop
 mul-place c =
-    let pre = c .before .before .before .before .before .before .before .before .before .before .before .before .before .before .before .before .pre in
+    let back = c .before .before .before .before .before .before .before .before in
+    let far = back .before .before .before .before .before .before .before .before in
+    let pre = far .pre in
     omega (arith, c .before .loop .inv .0 .1 .walk .low, pre .0 .few-pairs)
 
 shared-slice-read-place : tie.Need-shared-slice-read-place Inv-loop μ-loop
 shared-slice-read-place c =
-    let pre = c .before .before .before .before .before .before .before .before .before .before .before .before .before .before .before .before .before .pre in
+    let back = c .before .before .before .before .before .before .before .before in
+    let far = back .before .before .before .before .before .before .before .before in
+    let pre = far .before .pre in
     omega (arith, c .before .loop-test .taken, c .before .before .loop .inv .0 .1 .walk .low, pre .0 .order .paired)
 
 place-requires : tie.Need-place-requires Inv-loop μ-loop
@@ -114,12 +119,16 @@ sub-wide c = omega (arith, c .before .before .loop-test .taken)
 
 mul-wide-3 : tie.Need-mul-wide-3 Inv-loop μ-loop
 mul-wide-3 c =
-    let pre = c .before .before .before .before .before .before .before .before .before .before .before .before .before .before .before .before .before .before .pre in
+    let back = c .before .before .before .before .before .before .before .before in
+    let far = back .before .before .before .before .before .before .before .before in
+    let pre = far .before .before .pre in
     omega (arith, c .before .before .before .loop .inv .0 .1 .walk .low, pre .0 .few-pairs)
 
 shared-slice-read-wide-2 : tie.Need-shared-slice-read-wide-2 Inv-loop μ-loop
 shared-slice-read-wide-2 c =
-    let pre = c .before .before .before .before .before .before .before .before .before .before .before .before .before .before .before .before .before .before .before .pre in
+    let back = c .before .before .before .before .before .before .before .before in
+    let far = back .before .before .before .before .before .before .before .before in
+    let pre = far .before .before .before .pre in
     omega (
       arith,
       c .before .before .before .loop-test .taken,
@@ -132,7 +141,9 @@ wide-requires-3 c κs = search needs
 
 slice-read-if1 : tie.Need-slice-read-if1 Inv-loop μ-loop
 slice-read-if1 c =
-    let pre = c .before .before .before .before .before .before .before .before .before .before .before .before .before .before .before .before .before .before .before .before .before .pre in
+    let back = c .before .before .before .before .before .before .before .before in
+    let far = back .before .before .before .before .before .before .before .before in
+    let pre = far .before .before .before .before .before .pre in
     let loop = c .before .before .before .before .before .before .loop in
     let loop-test = c .before .before .before .before .before .loop-test in
     omega (
@@ -145,7 +156,9 @@ slice-read-if1 c =
 
 loop-less : tie.Need-loop-less Inv-loop μ-loop
 loop-less c =
-    let pre = c .before .before .before .before .before .before .before .before .before .before .before .before .before .before .before .before .before .before .before .before .before .before .pre in
+    let back = c .before .before .before .before .before .before .before .before in
+    let far = back .before .before .before .before .before .before .before .before in
+    let pre = far .before .before .before .before .before .before .pre in
     let loop = c .before .before .before .before .before .before .before .loop in
     let loop-test = c .before .before .before .before .before .before .loop-test in
     walk-lower (pre .1 .1 .1 .0 .chained) (loop .inv .0 .1 .walk) (loop-test .taken) (c .before .before .wide3 .ensures)
@@ -167,7 +180,9 @@ loop-again c =
 
 slice-write-labels : tie.Need-slice-write-labels Inv-loop μ-loop
 slice-write-labels c =
-    let pre = c .before .before .before .before .before .before .before .before .before .before .before .before .before .before .before .before .before .before .before .before .before .before .pre in
+    let back = c .before .before .before .before .before .before .before .before in
+    let far = back .before .before .before .before .before .before .before .before in
+    let pre = far .before .before .before .before .before .before .pre in
     let loop = c .before .before .before .before .before .before .before .loop in
     let loop-test = c .before .before .before .before .before .before .loop-test in
     omega (
@@ -180,7 +195,9 @@ slice-write-labels c =
 
 mul-lengths : tie.Need-mul-lengths Inv-loop μ-loop
 mul-lengths c =
-    let pre = c .before .before .before .before .before .before .before .before .before .before .before .before .before .before .before .before .before .before .before .before .before .before .pre in
+    let back = c .before .before .before .before .before .before .before .before in
+    let far = back .before .before .before .before .before .before .before .before in
+    let pre = far .before .before .before .before .before .before .pre in
     let loop = c .before .before .before .before .before .before .before .loop in
     let loop-test = c .before .before .before .before .before .before .loop-test in
     omega (
@@ -192,7 +209,9 @@ mul-lengths c =
 
 slice-write-lengths : tie.Need-slice-write-lengths Inv-loop μ-loop
 slice-write-lengths c =
-    let pre = c .before .before .before .before .before .before .before .before .before .before .before .before .before .before .before .before .before .before .before .before .before .before .pre in
+    let back = c .before .before .before .before .before .before .before .before in
+    let far = back .before .before .before .before .before .before .before .before in
+    let pre = far .before .before .before .before .before .before .pre in
     let loop = c .before .before .before .before .before .before .before .loop in
     let loop-test = c .before .before .before .before .before .before .loop-test in
     omega (
@@ -205,7 +224,9 @@ slice-write-lengths c =
 
 cast-queue : tie.Need-cast-queue Inv-loop μ-loop
 cast-queue c =
-    let pre = c .before .before .before .before .before .before .before .before .before .before .before .before .before .before .before .before .before .before .before .before .before .before .pre in
+    let back = c .before .before .before .before .before .before .before .before in
+    let far = back .before .before .before .before .before .before .before .before in
+    let pre = far .before .before .before .before .before .before .pre in
     let loop = c .before .before .before .before .before .before .before .loop in
     let loop-test = c .before .before .before .before .before .before .loop-test in
     omega (
@@ -217,13 +238,17 @@ cast-queue c =
 
 mul-queue : tie.Need-mul-queue Inv-loop μ-loop
 mul-queue c =
-    let pre = c .before .before .before .before .before .before .before .before .before .before .before .before .before .before .before .before .before .before .before .before .before .before .pre in
+    let back = c .before .before .before .before .before .before .before .before in
+    let far = back .before .before .before .before .before .before .before .before in
+    let pre = far .before .before .before .before .before .before .pre in
     let loop = c .before .before .before .before .before .before .before .loop in
     omega (arith, loop .inv .0 .0 .full, pre .0 .few-marks)
 
 slice-write-queue : tie.Need-slice-write-queue Inv-loop μ-loop
 slice-write-queue c =
-    let pre = c .before .before .before .before .before .before .before .before .before .before .before .before .before .before .before .before .before .before .before .before .before .before .pre in
+    let back = c .before .before .before .before .before .before .before .before in
+    let far = back .before .before .before .before .before .before .before .before in
+    let pre = far .before .before .before .before .before .before .pre in
     let loop = c .before .before .before .before .before .before .before .loop in
     let loop-test = c .before .before .before .before .before .before .loop-test in
     queue-room (pre .0) (pre .1 .1 .1 .0) (loop .inv .0 .0) (loop .inv .0 .1) (loop-test .taken)
@@ -232,13 +257,17 @@ slice-write-queue c =
 
 add-t : tie.Need-add-t Inv-loop μ-loop
 add-t c =
-    let pre = c .before .before .before .before .before .before .before .before .before .before .before .before .before .before .before .before .before .before .before .before .before .before .pre in
+    let back = c .before .before .before .before .before .before .before .before in
+    let far = back .before .before .before .before .before .before .before .before in
+    let pre = far .before .before .before .before .before .before .pre in
     let loop = c .before .before .before .before .before .before .before .loop in
     omega (arith, loop .inv .0 .0 .full, pre .0 .few-marks)
 
 loop-less-2 : tie.Need-loop-less-2 Inv-loop μ-loop
 loop-less-2 c =
-    let pre = c .before .before .before .before .before .before .before .before .before .before .before .before .before .before .before .before .before .before .before .before .before .before .pre in
+    let back = c .before .before .before .before .before .before .before .before in
+    let far = back .before .before .before .before .before .before .before .before in
+    let pre = far .before .before .before .before .before .before .pre in
     let loop = c .before .before .before .before .before .before .before .loop in
     let loop-test = c .before .before .before .before .before .before .loop-test in
     walk-lower (pre .1 .1 .1 .0 .chained) (loop .inv .0 .1 .walk) (loop-test .taken) (c .before .before .wide3 .ensures)

@@ -85,7 +85,8 @@ wide-requires-2 c κs = search needs
 
 loop-holds : tie.Need-loop-holds Inv-loop μ-loop
 loop-holds c =
-    let pre = c .before .before .before .before .before .before .before .before .before .before .before .before .before .before .pre in (
+    let back = c .before .before .before .before .before .before .before .before in
+    let pre = back .before .before .before .before .before .before .pre in (
       enter _ _ _ (pre .0) _ _ _ _ _ _ _ _ _ _ _ _ _ _ (pre .1 .1 .1 .0) (pre .1 .1 .1 .1 .0 .run) (pre .1 .1 .1 .1 .1)
           (pre .1 .1 .1 .1 .2) (c .before .before .before .wide .ensures) (c .wide2 .ensures),
       refl,
@@ -99,12 +100,16 @@ sub-place c = omega (arith, c .loop-test .taken)
 
 mul-place : tie.Need-mul-place Inv-loop μ-loop
 mul-place c =
-    let pre = c .before .before .before .before .before .before .before .before .before .before .before .before .before .before .before .before .pre in
+    let back = c .before .before .before .before .before .before .before .before in
+    let far = back .before .before .before .before .before .before .before .before in
+    let pre = far .pre in
     omega (arith, c .before .loop .inv .0 .1 .walk .low, pre .0 .few-pairs)
 
 shared-slice-read-place : tie.Need-shared-slice-read-place Inv-loop μ-loop
 shared-slice-read-place c =
-    let pre = c .before .before .before .before .before .before .before .before .before .before .before .before .before .before .before .before .before .pre in
+    let back = c .before .before .before .before .before .before .before .before in
+    let far = back .before .before .before .before .before .before .before .before in
+    let pre = far .before .pre in
     omega (arith, c .before .loop-test .taken, c .before .before .loop .inv .0 .1 .walk .low, pre .0 .order .paired)
 
 place-requires : tie.Need-place-requires Inv-loop μ-loop
@@ -115,12 +120,16 @@ sub-wide c = omega (arith, c .before .before .loop-test .taken)
 
 mul-wide-3 : tie.Need-mul-wide-3 Inv-loop μ-loop
 mul-wide-3 c =
-    let pre = c .before .before .before .before .before .before .before .before .before .before .before .before .before .before .before .before .before .before .pre in
+    let back = c .before .before .before .before .before .before .before .before in
+    let far = back .before .before .before .before .before .before .before .before in
+    let pre = far .before .before .pre in
     omega (arith, c .before .before .before .loop .inv .0 .1 .walk .low, pre .0 .few-pairs)
 
 shared-slice-read-wide-2 : tie.Need-shared-slice-read-wide-2 Inv-loop μ-loop
 shared-slice-read-wide-2 c =
-    let pre = c .before .before .before .before .before .before .before .before .before .before .before .before .before .before .before .before .before .before .before .pre in
+    let back = c .before .before .before .before .before .before .before .before in
+    let far = back .before .before .before .before .before .before .before .before in
+    let pre = far .before .before .before .pre in
     omega (
       arith,
       c .before .before .before .loop-test .taken,
@@ -133,7 +142,9 @@ wide-requires-3 c κs = search needs
 
 mul-n : tie.Need-mul-n Inv-loop μ-loop
 mul-n c =
-    let pre = c .before .before .before .before .before .before .before .before .before .before .before .before .before .before .before .before .before .before .before .before .pre in
+    let back = c .before .before .before .before .before .before .before .before in
+    let far = back .before .before .before .before .before .before .before .before in
+    let pre = far .before .before .before .before .pre in
     let loop = c .before .before .before .before .before .loop in
     omega (
       arith,
@@ -147,7 +158,9 @@ mul-n c =
 
 slice-read-n : tie.Need-slice-read-n Inv-loop μ-loop
 slice-read-n c =
-    let pre = c .before .before .before .before .before .before .before .before .before .before .before .before .before .before .before .before .before .before .before .before .before .pre in
+    let back = c .before .before .before .before .before .before .before .before in
+    let far = back .before .before .before .before .before .before .before .before in
+    let pre = far .before .before .before .before .before .pre in
     let loop = c .before .before .before .before .before .before .loop in
     let loop-test = c .before .before .before .before .before .loop-test in
     omega (
@@ -160,7 +173,9 @@ slice-read-n c =
 
 sub-n : tie.Need-sub-n Inv-loop μ-loop
 sub-n c =
-    let pre = c .before .before .before .before .before .before .before .before .before .before .before .before .before .before .before .before .before .before .before .before .before .pre in
+    let back = c .before .before .before .before .before .before .before .before in
+    let far = back .before .before .before .before .before .before .before .before in
+    let pre = far .before .before .before .before .before .pre in
     let loop = c .before .before .before .before .before .before .loop in
     let loop-test = c .before .before .before .before .before .loop-test in
     omega (
@@ -171,7 +186,9 @@ sub-n c =
 
 mul-left : tie.Need-mul-left Inv-loop μ-loop
 mul-left c =
-    let pre = c .before .before .before .before .before .before .before .before .before .before .before .before .before .before .before .before .before .before .before .before .before .pre in
+    let back = c .before .before .before .before .before .before .before .before in
+    let far = back .before .before .before .before .before .before .before .before in
+    let pre = far .before .before .before .before .before .pre in
     let loop = c .before .before .before .before .before .before .loop in
     let loop-test = c .before .before .before .before .before .loop-test in
     omega (
@@ -183,7 +200,9 @@ mul-left c =
 
 slice-write-left : tie.Need-slice-write-left Inv-loop μ-loop
 slice-write-left c =
-    let pre = c .before .before .before .before .before .before .before .before .before .before .before .before .before .before .before .before .before .before .before .before .before .pre in
+    let back = c .before .before .before .before .before .before .before .before in
+    let far = back .before .before .before .before .before .before .before .before in
+    let pre = far .before .before .before .before .before .pre in
     let loop = c .before .before .before .before .before .before .loop in
     let loop-test = c .before .before .before .before .before .loop-test in
     omega (
@@ -196,7 +215,9 @@ slice-write-left c =
 
 loop-less : tie.Need-loop-less Inv-loop μ-loop
 loop-less c =
-    let pre = c .before .before .before .before .before .before .before .before .before .before .before .before .before .before .before .before .before .before .before .before .before .before .pre in
+    let back = c .before .before .before .before .before .before .before .before in
+    let far = back .before .before .before .before .before .before .before .before in
+    let pre = far .before .before .before .before .before .before .pre in
     let loop = c .before .before .before .before .before .before .before .loop in
     let loop-test = c .before .before .before .before .before .before .loop-test in
     walk-lower (pre .1 .1 .1 .0 .chained) (loop .inv .0 .1 .walk) (loop-test .taken) (c .before .before .wide3 .ensures)
@@ -232,17 +253,22 @@ loop-again c =
 
 shared-slice-read-if2 : tie.Need-shared-slice-read-if2 Inv-loop μ-loop
 shared-slice-read-if2 c =
-    let pre = c .before .before .before .before .before .before .before .before .before .before .before .before .before .before .before .before .before .before .before .before .before .before .before .pre in
-    let loop = c .before .before .before .before .before .before .before .before .loop in
+    let back = c .before .before .before .before .before .before .before .before in
+    let far = back .before .before .before .before .before .before .before .before in
+    let pre = far .before .before .before .before .before .before .before .pre in
+    let loop = back .loop in
     let loop-test = c .before .before .before .before .before .before .before .loop-test in
     let place = c .before .before .before .before .before .place in
     target-place _ _ _ (pre .0) _ _ (omega (arith, loop-test .taken, loop .inv .0 .1 .walk .low)) (place .ensures)
 
 loop-less-2 : tie.Need-loop-less-2 Inv-loop μ-loop
 loop-less-2 c =
-    let pre = c .before .before .before .before .before .before .before .before .before .before .before .before .before .before .before .before .before .before .before .before .before .before .before .before .pre in
-    let loop = c .before .before .before .before .before .before .before .before .before .loop in
-    let loop-test = c .before .before .before .before .before .before .before .before .loop-test in
+    let back = c .before .before .before .before .before .before .before .before in
+    let far = back .before .before .before .before .before .before .before .before in
+    let further = far .before .before .before .before .before .before .before .before in
+    let pre = further .pre in
+    let loop = back .before .loop in
+    let loop-test = back .loop-test in
     walk-lower (pre .1 .1 .1 .0 .chained) (loop .inv .0 .1 .walk) (loop-test .taken)
     (c .before .before .before .before .wide3 .ensures)
 
@@ -277,9 +303,12 @@ loop-again-2 c =
 
 slice-read-if3 : tie.Need-slice-read-if3 Inv-loop μ-loop
 slice-read-if3 c =
-    let pre = c .before .before .before .before .before .before .before .before .before .before .before .before .before .before .before .before .before .before .before .before .before .before .before .before .before .pre in
-    let loop = c .before .before .before .before .before .before .before .before .before .before .loop in
-    let loop-test = c .before .before .before .before .before .before .before .before .before .loop-test in
+    let back = c .before .before .before .before .before .before .before .before in
+    let far = back .before .before .before .before .before .before .before .before in
+    let further = far .before .before .before .before .before .before .before .before in
+    let pre = further .before .pre in
+    let loop = back .before .before .loop in
+    let loop-test = back .before .loop-test in
     let place = c .before .before .before .before .before .before .before .place in
     omega (
       arith,
@@ -290,9 +319,12 @@ slice-read-if3 c =
 
 loop-less-3 : tie.Need-loop-less-3 Inv-loop μ-loop
 loop-less-3 c =
-    let pre = c .before .before .before .before .before .before .before .before .before .before .before .before .before .before .before .before .before .before .before .before .before .before .before .before .before .before .pre in
-    let loop = c .before .before .before .before .before .before .before .before .before .before .before .loop in
-    let loop-test = c .before .before .before .before .before .before .before .before .before .before .loop-test in
+    let back = c .before .before .before .before .before .before .before .before in
+    let far = back .before .before .before .before .before .before .before .before in
+    let further = far .before .before .before .before .before .before .before .before in
+    let pre = further .before .before .pre in
+    let loop = back .before .before .before .loop in
+    let loop-test = back .before .before .loop-test in
     let wide3 = c .before .before .before .before .before .before .wide3 in
     walk-lower (pre .1 .1 .1 .0 .chained) (loop .inv .0 .1 .walk) (loop-test .taken) (wide3 .ensures)
 
@@ -327,10 +359,13 @@ loop-again-3 c =
 
 slice-write-labels : tie.Need-slice-write-labels Inv-loop μ-loop
 slice-write-labels c =
-    let pre = c .before .before .before .before .before .before .before .before .before .before .before .before .before .before .before .before .before .before .before .before .before .before .before .before .before .before .pre in
-    let loop = c .before .before .before .before .before .before .before .before .before .before .before .loop in
-    let loop-test = c .before .before .before .before .before .before .before .before .before .before .loop-test in
-    let place = c .before .before .before .before .before .before .before .before .place in
+    let back = c .before .before .before .before .before .before .before .before in
+    let far = back .before .before .before .before .before .before .before .before in
+    let further = far .before .before .before .before .before .before .before .before in
+    let pre = further .before .before .pre in
+    let loop = back .before .before .before .loop in
+    let loop-test = back .before .before .loop-test in
+    let place = back .place in
     omega (
       arith,
       target-place _ _ _ (pre .0) _ _ (omega (arith, loop-test .taken, loop .inv .0 .1 .walk .low)) (place .ensures),
@@ -340,10 +375,13 @@ slice-write-labels c =
 
 mul-lengths : tie.Need-mul-lengths Inv-loop μ-loop
 mul-lengths c =
-    let pre = c .before .before .before .before .before .before .before .before .before .before .before .before .before .before .before .before .before .before .before .before .before .before .before .before .before .before .pre in
-    let loop = c .before .before .before .before .before .before .before .before .before .before .before .loop in
-    let loop-test = c .before .before .before .before .before .before .before .before .before .before .loop-test in
-    let place = c .before .before .before .before .before .before .before .before .place in
+    let back = c .before .before .before .before .before .before .before .before in
+    let far = back .before .before .before .before .before .before .before .before in
+    let further = far .before .before .before .before .before .before .before .before in
+    let pre = further .before .before .pre in
+    let loop = back .before .before .before .loop in
+    let loop-test = back .before .before .loop-test in
+    let place = back .place in
     omega (
       arith,
       target-place _ _ _ (pre .0) _ _ (omega (arith, loop-test .taken, loop .inv .0 .1 .walk .low)) (place .ensures),
@@ -352,10 +390,13 @@ mul-lengths c =
 
 slice-write-lengths : tie.Need-slice-write-lengths Inv-loop μ-loop
 slice-write-lengths c =
-    let pre = c .before .before .before .before .before .before .before .before .before .before .before .before .before .before .before .before .before .before .before .before .before .before .before .before .before .before .pre in
-    let loop = c .before .before .before .before .before .before .before .before .before .before .before .loop in
-    let loop-test = c .before .before .before .before .before .before .before .before .before .before .loop-test in
-    let place = c .before .before .before .before .before .before .before .before .place in
+    let back = c .before .before .before .before .before .before .before .before in
+    let far = back .before .before .before .before .before .before .before .before in
+    let further = far .before .before .before .before .before .before .before .before in
+    let pre = further .before .before .pre in
+    let loop = back .before .before .before .loop in
+    let loop-test = back .before .before .loop-test in
+    let place = back .place in
     omega (
       arith,
       target-place _ _ _ (pre .0) _ _ (omega (arith, loop-test .taken, loop .inv .0 .1 .walk .low)) (place .ensures),
@@ -365,10 +406,13 @@ slice-write-lengths c =
 
 cast-queue : tie.Need-cast-queue Inv-loop μ-loop
 cast-queue c =
-    let pre = c .before .before .before .before .before .before .before .before .before .before .before .before .before .before .before .before .before .before .before .before .before .before .before .before .before .before .pre in
-    let loop = c .before .before .before .before .before .before .before .before .before .before .before .loop in
-    let loop-test = c .before .before .before .before .before .before .before .before .before .before .loop-test in
-    let place = c .before .before .before .before .before .before .before .before .place in
+    let back = c .before .before .before .before .before .before .before .before in
+    let far = back .before .before .before .before .before .before .before .before in
+    let further = far .before .before .before .before .before .before .before .before in
+    let pre = further .before .before .pre in
+    let loop = back .before .before .before .loop in
+    let loop-test = back .before .before .loop-test in
+    let place = back .place in
     omega (
       arith,
       target-place _ _ _ (pre .0) _ _ (omega (arith, loop-test .taken, loop .inv .0 .1 .walk .low)) (place .ensures),
@@ -377,30 +421,42 @@ cast-queue c =
 
 mul-queue : tie.Need-mul-queue Inv-loop μ-loop
 mul-queue c =
-    let pre = c .before .before .before .before .before .before .before .before .before .before .before .before .before .before .before .before .before .before .before .before .before .before .before .before .before .before .pre in
-    let loop = c .before .before .before .before .before .before .before .before .before .before .before .loop in
+    let back = c .before .before .before .before .before .before .before .before in
+    let far = back .before .before .before .before .before .before .before .before in
+    let further = far .before .before .before .before .before .before .before .before in
+    let pre = further .before .before .pre in
+    let loop = back .before .before .before .loop in
     omega (arith, loop .inv .0 .0 .full, pre .0 .few-marks)
 
 slice-write-queue : tie.Need-slice-write-queue Inv-loop μ-loop
 slice-write-queue c =
-    let pre = c .before .before .before .before .before .before .before .before .before .before .before .before .before .before .before .before .before .before .before .before .before .before .before .before .before .before .pre in
-    let loop = c .before .before .before .before .before .before .before .before .before .before .before .loop in
-    let loop-test = c .before .before .before .before .before .before .before .before .before .before .loop-test in
-    let place = c .before .before .before .before .before .before .before .before .place in
+    let back = c .before .before .before .before .before .before .before .before in
+    let far = back .before .before .before .before .before .before .before .before in
+    let further = far .before .before .before .before .before .before .before .before in
+    let pre = further .before .before .pre in
+    let loop = back .before .before .before .loop in
+    let loop-test = back .before .before .loop-test in
+    let place = back .place in
     queue-room (pre .0) (pre .1 .1 .1 .0) (loop .inv .0 .0) (loop .inv .0 .1) (loop-test .taken)
     (sym (place .ensures)) (slice-write-labels c) (omega (arith, loop .inv .3, pre .1 .1 .0 .queue-room)) (c .if3 .left)
 
 add-t : tie.Need-add-t Inv-loop μ-loop
 add-t c =
-    let pre = c .before .before .before .before .before .before .before .before .before .before .before .before .before .before .before .before .before .before .before .before .before .before .before .before .before .before .pre in
-    let loop = c .before .before .before .before .before .before .before .before .before .before .before .loop in
+    let back = c .before .before .before .before .before .before .before .before in
+    let far = back .before .before .before .before .before .before .before .before in
+    let further = far .before .before .before .before .before .before .before .before in
+    let pre = further .before .before .pre in
+    let loop = back .before .before .before .loop in
     omega (arith, loop .inv .0 .0 .full, pre .0 .few-marks)
 
 loop-less-4 : tie.Need-loop-less-4 Inv-loop μ-loop
 loop-less-4 c =
-    let pre = c .before .before .before .before .before .before .before .before .before .before .before .before .before .before .before .before .before .before .before .before .before .before .before .before .before .before .pre in
-    let loop = c .before .before .before .before .before .before .before .before .before .before .before .loop in
-    let loop-test = c .before .before .before .before .before .before .before .before .before .before .loop-test in
+    let back = c .before .before .before .before .before .before .before .before in
+    let far = back .before .before .before .before .before .before .before .before in
+    let further = far .before .before .before .before .before .before .before .before in
+    let pre = further .before .before .pre in
+    let loop = back .before .before .before .loop in
+    let loop-test = back .before .before .loop-test in
     let wide3 = c .before .before .before .before .before .before .wide3 in
     walk-lower (pre .1 .1 .1 .0 .chained) (loop .inv .0 .1 .walk) (loop-test .taken) (wide3 .ensures)
 

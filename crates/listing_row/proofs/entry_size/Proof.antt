@@ -62,8 +62,9 @@ objection-size-requires c κs = search needs
 
 returns : tie.Need-returns
 returns c =
+    let back = c .before .before .before .before .before .before .before .before in
     let place = c .before .before .before .before .before .before .place in
-    let pre = c .before .before .before .before .before .before .before .before .before .before .before .before .before .before .pre in
+    let pre = back .before .before .before .before .before .before .pre in
     c .objection-size .ensures
     ∙ ap length (row-told _ _ _ _ _ _ (pre .0) _ _ _ _ (pre .1) (place .ensures)
     (c .before .before .before .before .place2 .ensures) (c .before .before .before .kind-at .ensures))

@@ -34,7 +34,8 @@ kind-at-requires c κs =
 
 mul-put-objection : tie.Need-mul-put-objection
 mul-put-objection c =
-    let pre-there = c .before .before .before .before .before .before .before .before .before .before .before .before .before .pre in
+    let back = c .before .before .before .before .before .before .before .before in
+    let pre-there = back .before .before .before .before .before .pre in
     let pre = pre-there .0 in
     omega (
       arith,
@@ -46,7 +47,8 @@ mul-put-objection c =
 
 shared-slice-read-put-objection : tie.Need-shared-slice-read-put-objection
 shared-slice-read-put-objection c =
-    let pre-there = c .before .before .before .before .before .before .before .before .before .before .before .before .before .before .pre in
+    let back = c .before .before .before .before .before .before .before .before in
+    let pre-there = back .before .before .before .before .before .before .pre in
     let pre = pre-there .0 in
     omega (
       arith,
@@ -58,20 +60,23 @@ shared-slice-read-put-objection c =
 
 mul-put-objection-2 : tie.Need-mul-put-objection-2
 mul-put-objection-2 c =
-    let pre-there = c .before .before .before .before .before .before .before .before .before .before .before .before .before .before .pre in
+    let back = c .before .before .before .before .before .before .before .before in
+    let pre-there = back .before .before .before .before .before .before .pre in
     let pre = pre-there .0 in
     omega (arith, pre .0 .handed .order .target _ (pre .1), c .before .before .before .place2 .ensures, pre .0 .handed .few-marks)
 
 shared-slice-read-put-objection-2 : tie.Need-shared-slice-read-put-objection-2
 shared-slice-read-put-objection-2 c =
-    let pre-there = c .before .before .before .before .before .before .before .before .before .before .before .before .before .before .before .pre in
+    let back = c .before .before .before .before .before .before .before .before in
+    let pre-there = back .before .before .before .before .before .before .before .pre in
     let pre = pre-there .0 in
     omega (arith, pre .0 .handed .order .target _ (pre .1), c .before .before .before .before .place2 .ensures, pre .0 .numbered)
 
 put-objection-requires : tie.Need-put-objection-requires
 put-objection-requires c κs =
+    let back = c .before .before .before .before .before .before .before .before in
     let place = c .before .before .before .before .before .before .place in
-    let pre = c .before .before .before .before .before .before .before .before .before .before .before .before .before .before .before .pre in
+    let pre = back .before .before .before .before .before .before .before .pre in
     omega (
       arith,
       pre .1,
@@ -84,11 +89,13 @@ same-length c = search needs
 
 returns : tie.Need-returns
 returns c =
+    let back = c .before .before .before .before .before .before .before .before in
+    let far = back .before .before .before .before .before .before .before .before in
     let kind-at = c .before .before .before .before .before .before .kind-at in
     let place2 = c .before .before .before .before .before .before .before .place2 in
-    let place = c .before .before .before .before .before .before .before .before .before .place in
-    let pre = c .before .before .before .before .before .before .before .before .before .before .before .before .before .before .before .before .before .before .pre in
-    let args = c .before .before .before .before .before .before .before .before .before .before .before .before .before .before .before .before .before .before .args in
+    let place = back .before .place in
+    let pre = far .before .before .pre in
+    let args = far .before .before .args in
     subst (λ u. Put (args .room .now) (args .at) u (c .before .before .put-objection .result)
     (c .before .before .put-objection .last .0))
     (row-told _ _ _ _ _ _ (pre .0 .0) _ _ _ _ (pre .0 .1) (place .ensures) (place2 .ensures) (kind-at .ensures))

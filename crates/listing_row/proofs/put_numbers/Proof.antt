@@ -42,10 +42,12 @@ slice-aggregate-put-word-2 c = search needs
 
 put-word-requires-3 : tie.Need-put-word-requires-3
 put-word-requires-3 c κs =
-    let args = c .before .before .before .before .before .before .before .before .before .before .before .before .before .before .before .before .before .args in
-    let pre = c .before .before .before .before .before .before .before .before .before .before .before .before .before .before .before .before .before .pre in
-    let put-word = c .before .before .before .before .before .before .before .before .before .before .before .before .before .put-word in
-    let put-word2 = c .before .before .before .before .before .before .before .before .put-word2 in
+    let back = c .before .before .before .before .before .before .before .before in
+    let far = back .before .before .before .before .before .before .before .before in
+    let args = far .before .args in
+    let pre = far .before .pre in
+    let put-word = back .before .before .before .before .before .put-word in
+    let put-word2 = back .put-word2 in
     let put-decimal = c .before .before .before .before .put-decimal in
     omega (
       arith,
@@ -61,11 +63,13 @@ put-word-requires-3 c κs =
 
 put-decimal-requires-2 : tie.Need-put-decimal-requires-2
 put-decimal-requires-2 c κs =
-    let args = c .before .before .before .before .before .before .before .before .before .before .before .before .before .before .before .before .before .before .before .before .before .args in
-    let pre = c .before .before .before .before .before .before .before .before .before .before .before .before .before .before .before .before .before .before .before .before .before .pre in
-    let put-word = c .before .before .before .before .before .before .before .before .before .before .before .before .before .before .before .before .before .put-word in
-    let put-word2 = c .before .before .before .before .before .before .before .before .before .before .before .before .put-word2 in
-    let put-decimal = c .before .before .before .before .before .before .before .before .put-decimal in
+    let back = c .before .before .before .before .before .before .before .before in
+    let far = back .before .before .before .before .before .before .before .before in
+    let args = far .before .before .before .before .before .args in
+    let pre = far .before .before .before .before .before .pre in
+    let put-word = far .before .put-word in
+    let put-word2 = back .before .before .before .before .put-word2 in
+    let put-decimal = back .put-decimal in
     let put-word3 = c .before .before .before .put-word3 in
     omega (
       arith,
@@ -86,12 +90,15 @@ slice-aggregate-put-word-3 c = search needs
 
 put-word-requires-4 : tie.Need-put-word-requires-4
 put-word-requires-4 c κs =
-    let args = c .before .before .before .before .before .before .before .before .before .before .before .before .before .before .before .before .before .before .before .before .before .before .before .before .before .before .args in
-    let pre = c .before .before .before .before .before .before .before .before .before .before .before .before .before .before .before .before .before .before .before .before .before .before .before .before .before .before .pre in
-    let put-word = c .before .before .before .before .before .before .before .before .before .before .before .before .before .before .before .before .before .before .before .before .before .before .put-word in
-    let put-word2 = c .before .before .before .before .before .before .before .before .before .before .before .before .before .before .before .before .before .put-word2 in
-    let put-decimal = c .before .before .before .before .before .before .before .before .before .before .before .before .before .put-decimal in
-    let put-word3 = c .before .before .before .before .before .before .before .before .put-word3 in
+    let back = c .before .before .before .before .before .before .before .before in
+    let far = back .before .before .before .before .before .before .before .before in
+    let further = far .before .before .before .before .before .before .before .before in
+    let args = further .before .before .args in
+    let pre = further .before .before .pre in
+    let put-word = far .before .before .before .before .before .before .put-word in
+    let put-word2 = far .before .put-word2 in
+    let put-decimal = back .before .before .before .before .before .put-decimal in
+    let put-word3 = back .put-word3 in
     let put-decimal2 = c .before .before .before .before .put-decimal2 in
     omega (
       arith,
@@ -114,12 +121,15 @@ same-length c = search needs
 
 returns : tie.Need-returns
 returns c =
-    let args = c .before .before .before .before .before .before .before .before .before .before .before .before .before .before .before .before .before .before .before .before .before .before .before .before .before .before .before .before .before .args in
-    let pre = c .before .before .before .before .before .before .before .before .before .before .before .before .before .before .before .before .before .before .before .before .before .before .before .before .before .before .before .before .before .pre in
-    let put-word = c .before .before .before .before .before .before .before .before .before .before .before .before .before .before .before .before .before .before .before .before .before .before .before .before .before .put-word in
-    let put-word2 = c .before .before .before .before .before .before .before .before .before .before .before .before .before .before .before .before .before .before .before .before .put-word2 in
-    let put-decimal = c .before .before .before .before .before .before .before .before .before .before .before .before .before .before .before .before .put-decimal in
-    let put-word3 = c .before .before .before .before .before .before .before .before .before .before .before .put-word3 in
+    let back = c .before .before .before .before .before .before .before .before in
+    let far = back .before .before .before .before .before .before .before .before in
+    let further = far .before .before .before .before .before .before .before .before in
+    let args = further .before .before .before .before .before .args in
+    let pre = further .before .before .before .before .before .pre in
+    let put-word = further .before .put-word in
+    let put-word2 = far .before .before .before .before .put-word2 in
+    let put-decimal = far .put-decimal in
+    let put-word3 = back .before .before .before .put-word3 in
     let put-decimal2 = c .before .before .before .before .before .before .before .put-decimal2 in
     numbers-put (args .room .now) (args .at) (args .word .now) (args .first) (args .second) pre (put-word .ensures)
     (put-word2 .ensures) (put-decimal .ensures) (put-word3 .ensures) (put-decimal2 .ensures)

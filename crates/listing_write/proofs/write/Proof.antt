@@ -62,8 +62,10 @@ put-statements-requires c κs =
 
 put-objections-requires : tie.Need-put-objections-requires
 put-objections-requires c κs =
-    let pre = c .before .before .before .before .before .before .before .before .before .before .before .before .before .before .before .before .pre in
-    let args = c .before .before .before .before .before .before .before .before .before .before .before .before .before .before .before .before .args in
+    let back = c .before .before .before .before .before .before .before .before in
+    let far = back .before .before .before .before .before .before .before .before in
+    let pre = far .pre in
+    let args = far .args in
     let numbers = args .numbers .now in
     let marks = args .marks .now in
     let objectors = args .objectors .now in
@@ -84,9 +86,11 @@ same-length c = search needs
 
 returns : tie.Need-returns
 returns c R ready =
-    let args = c .before .before .before .before .before .before .before .before .before .before .before .before .before .before .before .before .before .before .before .args in
-    let pre = c .before .before .before .before .before .before .before .before .before .before .before .before .before .before .before .before .before .before .before .pre in
-    let put-header = c .before .before .before .before .before .before .before .before .before .before .put-header in
+    let back = c .before .before .before .before .before .before .before .before in
+    let far = back .before .before .before .before .before .before .before .before in
+    let args = far .before .before .before .args in
+    let pre = far .before .before .before .pre in
+    let put-header = back .before .before .put-header in
     let put-statements = c .before .before .before .before .before .before .put-statements in
     let room = args .room .now in
     let numbers = args .numbers .now in

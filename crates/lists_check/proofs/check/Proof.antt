@@ -44,14 +44,17 @@ returns-5 c =
 
 repeated-requires : tie.Need-repeated-requires
 repeated-requires c κs =
-    let args = c .before .before .before .before .before .before .before .before .before .before .args in
+    let back = c .before .before .before .before .before .before .before .before in
+    let args = back .before .before .args in
     let marks = args .marks .now in
     record {
       few-marks = omega arith;
       few-pairs = omega arith;
       order =
-          in-order _ _ _ (omega arith) (found-clear (BadMark marks) _ _ (λ j p. p .0) (c .before .before .before .bad-mark .ensures)
-          (c .before .before .if4 .left)) (found-clear (BadPlace marks (args .objectors .now) (args .targets .now)) _ _ (λ j p. p .0)
+          in-order _ _ _ (omega arith)
+          (found-clear (BadMark marks) _ _ (λ j p. p .0) (c .before .before .before .bad-mark .ensures)
+          (c .before .before .if4 .left))
+          (found-clear (BadPlace marks (args .objectors .now) (args .targets .now)) _ _ (λ j p. p .0)
           (c .before .bad-place .ensures) (c .if5 .left));
     }
 

@@ -49,14 +49,20 @@ place-requires-2 c κs = search needs
 
 pair-at-requires : tie.Need-pair-at-requires Inv-loop μ-loop
 pair-at-requires c κs =
-    let start = c .before .before .before .before .before .before .before .before .before .before .before .before .before in
+    let back = c .before .before .before .before .before .before .before .before in
+    let start = back .before .before .before .before .before in
     let args = start .args in
     let pre = start .pre in
     let loop = c .before .before .before .before .before .before .before .loop in
     let taken = c .before .before .before .before .before .before .loop-test .taken in
     let y = c .before .before .before .before .place .ensures in
-    let x = c .before .before .place2 .ensures in
-    (loop .inv .3, omega (arith, taken, pre .0 .few-pairs), omega (arith, y, pre .0 .order .objector (loop .k) taken), omega (arith, x, pre .0 .order .target (loop .k) taken))
+    let x = c .before .before .place2 .ensures in (
+      loop .inv .3,
+      omega (arith, taken, pre .0 .few-pairs),
+      omega (arith, y, pre .0 .order .objector (loop .k) taken),
+      omega
+          (arith, x, pre .0 .order .target (loop .k) taken),
+    )
 
 same-length : tie.Need-same-length Inv-loop μ-loop
 same-length c = c .before .before .before .before .before .before .before .before .before .loop .inv .1
@@ -66,27 +72,38 @@ same-length-2 c = c .before .before .before .before .before .before .before .bef
 
 returns : tie.Need-returns Inv-loop μ-loop
 returns c =
-    let start = c .before .before .before .before .before .before .before .before .before .before .before .before .before .before .before in
+    let back = c .before .before .before .before .before .before .before .before in
+    let start = back .before .before .before .before .before .before .before in
     let args = start .args in
     let pre = start .pre in
-    let loop = c .before .before .before .before .before .before .before .before .before .loop in
-    let taken = c .before .before .before .before .before .before .before .before .loop-test .taken in
+    let loop = back .before .loop in
+    let taken = back .loop-test .taken in
     let y = c .before .before .before .before .before .before .place .ensures in
     let x = c .before .before .before .before .place2 .ensures in
-    found-here _ _ _ taken (loop .inv .6) (is-repeat (args .objectors .now) (args .targets .now) (objectorsIn (loop .copies)) (targetsIn (loop .copies)) (loop .k) _ _ taken
+    found-here _ _ _ taken (loop .inv .6)
+    (is-repeat (args .objectors .now) (args .targets .now) (objectorsIn (loop .copies)) (targetsIn (loop .copies)) (loop .k) _ _
+    taken
     (loop .inv .4) (loop .inv .5) y x _ (c .before .pair-at .ensures) (c .if1 .taken))
 
 enter-requires : tie.Need-enter-requires Inv-loop μ-loop
 enter-requires c κs =
-    let start = c .before .before .before .before .before .before .before .before .before .before .before .before .before .before .before .before .before in
+    let back = c .before .before .before .before .before .before .before .before in
+    let far = back .before .before .before .before .before .before .before .before in
+    let start = far .before in
     let pre = start .pre in
-    let loop = c .before .before .before .before .before .before .before .before .before .before .before .loop in
-    let taken = c .before .before .before .before .before .before .before .before .before .before .loop-test .taken in
-    let y = c .before .before .before .before .before .before .before .before .place .ensures in
+    let loop = back .before .before .before .loop in
+    let taken = back .before .before .loop-test .taken in
+    let y = back .place .ensures in
     let x = c .before .before .before .before .before .before .place2 .ensures in
     let fits-y = pre .0 .order .objector (loop .k) taken in
     let fits-x = pre .0 .order .target (loop .k) taken in (
-      (loop .inv .3, omega (arith, taken, pre .0 .few-pairs), omega (arith, y, x, fits-y, fits-x), omega (arith, y, x, fits-y, fits-x)),
+      (
+        loop .inv .3,
+        omega (arith, taken, pre .0 .few-pairs),
+        omega (arith, y, x, fits-y, fits-x),
+        omega
+            (arith, y, x, fits-y, fits-x),
+      ),
       λ e h. c .before .before .before .pair-at .ensures .1 e (omega (arith, c .before .before .if1 .left)),
     )
 
@@ -98,13 +115,15 @@ loop-less c = search needs
 
 loop-again : tie.Need-loop-again Inv-loop μ-loop
 loop-again c =
-    let start = c .before .before .before .before .before .before .before .before .before .before .before .before .before .before .before .before .before .before .before .before .before .before in
+    let back = c .before .before .before .before .before .before .before .before in
+    let far = back .before .before .before .before .before .before .before .before in
+    let start = far .before .before .before .before .before .before in
     let args = start .args in
     let pre = start .pre in
-    let loop = c .before .before .before .before .before .before .before .before .before .before .before .before .before .before .before .before .loop in
-    let taken = c .before .before .before .before .before .before .before .before .before .before .before .before .before .before .before .loop-test .taken in
-    let y = c .before .before .before .before .before .before .before .before .before .before .before .before .before .place .ensures in
-    let x = c .before .before .before .before .before .before .before .before .before .before .before .place2 .ensures in
+    let loop = far .loop in
+    let taken = back .before .before .before .before .before .before .before .loop-test .taken in
+    let y = back .before .before .before .before .before .place .ensures in
+    let x = back .before .before .before .place2 .ensures in
     let enter = c .before .before .before .before .enter in
     let room : loop .k < length (loop .copies) = omega (arith, taken, pre .0 .few-pairs, loop .inv .3 .pairs-room) in (
       search needs,
@@ -115,8 +134,12 @@ loop-again c =
           (omega (arith, room, objectors-length (loop .copies))) (loop .inv .4) y),
       rw (enter .ensures .2) (copied-more (targetsIn (loop .copies)) (args .targets .now) (loop .k) _
           (omega (arith, room, targets-length (loop .copies))) (loop .inv .5) x),
-      further _ _ (loop .inv .6) (no-repeat (args .objectors .now) (args .targets .now) (objectorsIn (loop .copies)) (targetsIn (loop .copies)) (loop .k) _ _ taken
-          (loop .inv .4) (loop .inv .5) y x _ (c .before .before .before .before .before .before .before .before .pair-at .ensures) (c .before .before .before .before .before .before .before .if1 .left)),
+      further _ _ (loop .inv .6)
+          (no-repeat (args .objectors .now) (args .targets .now) (objectorsIn (loop .copies)) (targetsIn (loop .copies)) (loop .k)
+          _ _
+          taken
+          (loop .inv .4) (loop .inv .5) y x _ (back .pair-at .ensures)
+          (c .before .before .before .before .before .before .before .if1 .left)),
     )
 
 same-length-3 : tie.Need-same-length-3 Inv-loop μ-loop

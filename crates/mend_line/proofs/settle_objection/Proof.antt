@@ -89,8 +89,9 @@ same-length-6 c = search needs
 
 returns-4 : tie.Need-returns-4
 returns-4 c =
+    let back = c .before .before .before .before .before .before .before .before in
     let look-up2 = c .before .before .before .before .before .before .look-up2 in
-    let look-up = c .before .before .before .before .before .before .before .before .look-up in
+    let look-up = back .look-up in
     let if2 = c .before .before .before .before .before .if2 in
     let if1 = c .before .before .before .before .before .before .before .if1 in (
       inr (inr (inr (inl (
@@ -111,12 +112,22 @@ returns-4 c =
         refl,
         refl,
       )))),
-      c .before .before .before .before .before .before .before .before .before .before .before .before .before .before .pre .1 .1,
+      back .before .before .before .before .before .before .pre .1 .1,
     )
 
 enter-requires : tie.Need-enter-requires
 enter-requires c κs =
-    ((c .before .before .before .before .before .before .before .before .before .before .before .before .before .before .before .before .pre .1 .1, c .before .before .if4 .left, c .before .before .before .before .before .before .before .if2 .left, c .before .before .before .before .before .before .before .before .before .if1 .left), λ e h. c .before .before .before .before .pair-at .ensures .1 e (omega (arith, c .before .before .before .if3 .left)))
+    let back = c .before .before .before .before .before .before .before .before in
+    let far = back .before .before .before .before .before .before .before .before in (
+      (
+        far .pre .1 .1,
+        c .before .before .if4 .left,
+        c .before .before .before .before .before .before .before .if2 .left,
+        back .before .if1 .left,
+      ),
+      λ e h. c .before .before .before .before .pair-at .ensures .1 e
+          (omega (arith, c .before .before .before .if3 .left)),
+    )
 
 same-length-7 : tie.Need-same-length-7
 same-length-7 c = search needs
@@ -126,10 +137,11 @@ same-length-8 c = search needs
 
 returns-5 : tie.Need-returns-5
 returns-5 c =
-    let look-up2 = c .before .before .before .before .before .before .before .before .before .before .before .before .before .look-up2 in
-    let look-up = c .before .before .before .before .before .before .before .before .before .before .before .before .before .before .before .look-up in
-    let if2 = c .before .before .before .before .before .before .before .before .before .before .before .before .if2 in
-    let if1 = c .before .before .before .before .before .before .before .before .before .before .before .before .before .before .if1 in
+    let back = c .before .before .before .before .before .before .before .before in
+    let look-up2 = back .before .before .before .before .before .look-up2 in
+    let look-up = back .before .before .before .before .before .before .before .look-up in
+    let if2 = back .before .before .before .before .if2 in
+    let if1 = back .before .before .before .before .before .before .if1 in
     let enter = c .before .before .before .before .enter in (
       inr (inr (inr (inr (
         refl,
@@ -143,7 +155,7 @@ returns-5 c =
             target = (if1 .left, look-up .ensures .2 (if1 .left));
             target-first = look-up .ensures .1;
           },
-          (λ j l a b. c .before .before .before .before .before .before .before .before .before .pair-at .ensures .1 j (omega (arith, c .before .before .before .before .before .before .before .before .if3 .left)) (a, b)),
+          (λ j l a b. back .before .pair-at .ensures .1 j (omega (arith, back .if3 .left)) (a, b)),
           enter .ensures .1,
           enter .ensures .2,
         ),

@@ -47,8 +47,16 @@ same-length-5 c = search needs
 
 returns-2 : tie.Need-returns-2
 returns-2 c =
-    let pre = c .before .before .before .before .before .before .before .before .before .pre in
-    inr (inl (refl, (λ i l. c .before .before .look-up .ensures .1 i (omega (arith, c .before .if1 .left))), c .if2 .taken, refl, refl, pre .1))
+    let back = c .before .before .before .before .before .before .before .before in
+    let pre = back .before .pre in
+    inr (inl (
+      refl,
+      (λ i l. c .before .before .look-up .ensures .1 i (omega (arith, c .before .if1 .left))),
+      c .if2 .taken,
+      refl,
+      refl,
+      pre .1,
+    ))
 
 enter-requires : tie.Need-enter-requires
 enter-requires c κs =
@@ -78,11 +86,12 @@ same-length-8 c = search needs
 
 returns-3 : tie.Need-returns-3
 returns-3 c =
-    let look-up = c .before .before .before .before .before .before .before .before .before .look-up in
-    let if1 = c .before .before .before .before .before .before .before .before .if1 in
+    let back = c .before .before .before .before .before .before .before .before in
+    let look-up = back .before .look-up in
+    let if1 = back .if1 in
     let if2 = c .before .before .before .before .before .before .before .if2 in
     let enter = c .before .before .before .before .enter in
-    let mark-number = c .before .before .before .before .before .before .before .before .before .before .before .before .mark-number in
+    let mark-number = back .before .before .before .before .mark-number in
     inr (inr (
       refl,
       (λ i l. look-up .ensures .1 i (omega (arith, if1 .left))),

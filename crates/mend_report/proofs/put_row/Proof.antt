@@ -26,7 +26,8 @@ slice-aggregate-put-word c = search needs
 
 put-word-requires : tie.Need-put-word-requires
 put-word-requires c κs =
-    let args = c .before .before .before .before .before .before .before .before .before .before .before .before .before .before .before .args in
+    let back = c .before .before .before .before .before .before .before .before in
+    let args = back .before .before .before .before .before .before .before .args in
     omega (arith, row-length (args .line) (args .fate))
 
 same-length : tie.Need-same-length
@@ -34,9 +35,11 @@ same-length c = search needs
 
 returns : tie.Need-returns
 returns c =
-    let start = c .before .before .before .before .before .before .before .before .before .before .before .before .before .before .before .before .before .before in
-    let put-decimal = c .before .before .before .before .before .before .before .before .before .before .before .before .before .before .before .put-decimal in
-    let put-fate = c .before .before .before .before .before .before .before .before .before .before .before .put-fate in
+    let back = c .before .before .before .before .before .before .before .before in
+    let far = back .before .before .before .before .before .before .before .before in
+    let start = far .before .before in
+    let put-decimal = back .before .before .before .before .before .before .before .put-decimal in
+    let put-fate = back .before .before .before .put-fate in
     let put-decimal2 = c .before .before .before .before .before .before .before .put-decimal2 in
     pieces-put (start .args .line) (start .args .fate) (start .args .room .now) (start .args .at) (start .pre)
     (put-decimal .ensures) (put-fate .ensures) (put-decimal2 .ensures) (c .before .before .put-word .ensures)

@@ -73,7 +73,11 @@ loop-again-2 c =
     (search needs, omega (arith, rows-longer (rowAt fates) next, ap length (kept-row fates next (c .if1 .left))))
 
 returns : tie.Need-returns Inv-loop μ-loop
-returns c = omega (arith, ap length (report-all (c .before .before .before .args .fates .now) (c .before .loop .next) (omega arith)))
+returns c = omega (
+  arith,
+  ap length
+      (report-all (c .before .before .before .args .fates .now) (c .before .loop .next) (omega arith)),
+)
 
 pub report-size-spec : {M : Type 1} → statement M
 report-size-spec =

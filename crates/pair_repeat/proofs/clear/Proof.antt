@@ -22,8 +22,13 @@ loop-holds c = (search needs, refl, λ u h. absurd (omega arith))
 put-begins-requires : tie.Need-put-begins-requires Inv-loop μ-loop
 put-begins-requires c κs =
     let pre = c .before .before .before .before .pre in
-    let taken = c .before .loop-test .taken in
-    (omega (arith, taken, pre .0), omega (arith, taken, pre .0), omega arith, omega (arith, c .before .before .loop .inv .1, pre .1))
+    let taken = c .before .loop-test .taken in (
+      omega (arith, taken, pre .0),
+      omega (arith, taken, pre .0),
+      omega arith,
+      omega
+          (arith, c .before .before .loop .inv .1, pre .1),
+    )
 
 add-v : tie.Need-add-v Inv-loop μ-loop
 add-v c = search needs
@@ -39,7 +44,8 @@ loop-again c =
     let put = c .before .before .put-begins in (
       search needs,
       put .kept .0 ∙ loop .inv .1,
-      rw (put .ensures) (none-more (loop .links) (loop .v) (omega (arith, taken, pre .0)) (omega (arith, loop .inv .1, pre .1)) (loop .inv .2)),
+      rw (put .ensures) (none-more (loop .links) (loop .v) (omega (arith, taken, pre .0)) (omega (arith, loop .inv .1, pre .1))
+          (loop .inv .2)),
     )
 
 same-length : tie.Need-same-length Inv-loop μ-loop

@@ -55,8 +55,10 @@ loop-again c =
       search needs,
       simp length-set (loop .inv .1),
       simp length-set (loop .inv .2),
-      copied-more (loop .pairs) (objectorsIn pairs) (loop .e) _ (slice-write-pairs c) (loop .inv .3) (ap (λ w. w % 1024) word ∙ sym (objector-at pairs (loop .e))),
-      copied-more (loop .links) (targetsIn pairs) (loop .e) _ (slice-write-links c) (loop .inv .4) (ap (λ w. w / 1024 % 1024) word ∙ sym (target-at pairs (loop .e))),
+      copied-more (loop .pairs) (objectorsIn pairs) (loop .e) _ (slice-write-pairs c) (loop .inv .3)
+          (ap (λ w. w % 1024) word ∙ sym (objector-at pairs (loop .e))),
+      copied-more (loop .links) (targetsIn pairs) (loop .e) _ (slice-write-links c) (loop .inv .4)
+          (ap (λ w. w / 1024 % 1024) word ∙ sym (target-at pairs (loop .e))),
       λ i h. getD-set-other (loop .pairs) (loop .e) i _ 0 (λ p. omega arith) ∙ loop .inv .5 i (omega arith),
     )
 
@@ -73,8 +75,10 @@ returns c =
     let pre = start .pre in
     let loop = c .before .loop in
     let left = c .loop-test .left in (
-      given-back (loop .pairs) (objectorsIn pairs) (start .args .m) (omega (arith, loop .inv .1, pre .0)) (omega (arith, objectors-length pairs, pre .0)) (λ i h. loop .inv .3 i (omega (arith, left))),
-      given-back (loop .links) (targetsIn pairs) (start .args .m) (omega (arith, loop .inv .2, pre .1)) (omega (arith, targets-length pairs, pre .0)) (λ i h. loop .inv .4 i (omega (arith, left))),
+      given-back (loop .pairs) (objectorsIn pairs) (start .args .m) (omega (arith, loop .inv .1, pre .0))
+          (omega (arith, objectors-length pairs, pre .0)) (λ i h. loop .inv .3 i (omega (arith, left))),
+      given-back (loop .links) (targetsIn pairs) (start .args .m) (omega (arith, loop .inv .2, pre .1))
+          (omega (arith, targets-length pairs, pre .0)) (λ i h. loop .inv .4 i (omega (arith, left))),
     )
 
 pub unpack-spec : {M : Type 1} → statement M

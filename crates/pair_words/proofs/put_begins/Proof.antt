@@ -30,8 +30,10 @@ same-length c = search needs
 returns : tie.Need-returns
 unfolding withBegins
 returns c =
-    let args = c .before .before .before .before .before .before .before .before .before .args in
-    c .before .before .put-high2 .ensures ∙ ap (λ r. withHigh r (1025 + 2 * args .y) (args .b)) (c .before .before .before .before .before .before .put-high .ensures)
+    let back = c .before .before .before .before .before .before .before .before in
+    let args = back .before .args in
+    c .before .before .put-high2 .ensures ∙ ap (λ r. withHigh r (1025 + 2 * args .y) (args .b))
+    (c .before .before .before .before .before .before .put-high .ensures)
 
 pub put-begins-spec : {M : Type 1} → statement M
 put-begins-spec =

@@ -15,7 +15,8 @@ same-length c = search needs
 returns : tie.Need-returns
 returns c =
     let args = c .before .before .before .before .before .before .args in
-    c .before .before .put-low .ensures ∙ sym (put-low (args .links .now) (args .e) (args .l) (c .before .before .before .before .if1 .taken))
+    c .before .before .put-low .ensures ∙ sym
+    (put-low (args .links .now) (args .e) (args .l) (c .before .before .before .before .if1 .taken))
 
 put-high-requires : tie.Need-put-high-requires
 put-high-requires c κs = search needs
@@ -26,7 +27,8 @@ same-length-2 c = search needs
 returns-2 : tie.Need-returns-2
 returns-2 c =
     let args = c .before .before .before .before .before .before .args in
-    c .before .before .put-high .ensures ∙ sym (put-high (args .links .now) (args .e) (args .l) (omega (arith, c .before .before .before .before .if1 .left)))
+    c .before .before .put-high .ensures ∙ sym
+    (put-high (args .links .now) (args .e) (args .l) (omega (arith, c .before .before .before .before .if1 .left)))
 
 pub put-link-by-spec : {M : Type 1} → statement M
 put-link-by-spec =

@@ -44,7 +44,8 @@ in-reason-requires c κs =
 
 slice-write-inside : tie.Need-slice-write-inside Inv-loop μ-loop
 slice-write-inside c =
-    let pre = c .before .before .before .before .before .before .before .before .before .before .before .before .before .before .pre in
+    let back = c .before .before .before .before .before .before .before .before in
+    let pre = back .before .before .before .before .before .before .pre in
     omega (arith, c .before .before .before .loop-test .taken, c .before .before .before .before .loop .inv .1, pre .1 .0)
 
 loop-less : tie.Need-loop-less Inv-loop μ-loop
@@ -52,9 +53,10 @@ loop-less c = search needs
 
 loop-again : tie.Need-loop-again Inv-loop μ-loop
 loop-again c =
+    let back = c .before .before .before .before .before .before .before .before in
     let reach = c .before .before .before .before .before .before .reach in
-    let pre = c .before .before .before .before .before .before .before .before .before .before .before .before .before .before .pre in
-    let args = c .before .before .before .before .before .before .before .before .before .before .before .before .before .before .args in
+    let pre = back .before .before .before .before .before .before .pre in
+    let args = back .before .before .before .before .before .before .args in
     let loop = c .before .before .before .before .loop in (
       search needs,
       length-set (loop .inside) (loop .next) 1 ∙ loop .inv .1,
@@ -68,8 +70,9 @@ loop-less-2 c = search needs
 
 loop-again-2 : tie.Need-loop-again-2 Inv-loop μ-loop
 loop-again-2 c =
+    let back = c .before .before .before .before .before .before .before .before in
     let reach = c .before .before .before .before .before .before .reach in
-    let args = c .before .before .before .before .before .before .before .before .before .before .before .before .before .before .args in
+    let args = back .before .before .before .before .before .before .args in
     let loop = c .before .before .before .before .loop in (
       search needs,
       loop .inv .1,

@@ -57,8 +57,10 @@ tick-statement-requires c κs =
 
 loop-holds : tie.Need-loop-holds Inv-loop μ-loop
 loop-holds c =
-    let args = c .before .before .before .before .before .before .before .before .before .before .before .before .before .before .before .before .before .args in
-    let pre = c .before .before .before .before .before .before .before .before .before .before .before .before .before .before .before .before .before .pre in
+    let back = c .before .before .before .before .before .before .before .before in
+    let far = back .before .before .before .before .before .before .before .before in
+    let args = far .before .args in
+    let pre = far .before .pre in
     let came = c .before .before .before .tick-statement .ensures in (
       spread-begins _ _ _ _ _ (args .room .now) _ _ _ _ (pre .1 .1)
           (grown-in-room _ _ _ (args .room .now) _ _ _ _ (pre .1 .0) (came .0)) (came .1),
@@ -85,10 +87,13 @@ slice-aggregate-tick-objectors-3 c = sym (c .before .before .before .before .bef
 
 tick-objectors-requires : tie.Need-tick-objectors-requires Inv-loop μ-loop
 tick-objectors-requires c κs =
+    let back = c .before .before .before .before .before .before .before .before in
+    let far = back .before .before .before .before .before .before .before .before in
+    let further = far .before .before .before .before .before .before .before .before in
     let loop-test = c .before .before .before .before .before .loop-test in
     let loop = c .before .before .before .before .before .before .loop in
-    let chain = c .before .before .before .before .before .before .before .before .before .before .before .before .before .before .before .chain in
-    let pre = c .before .before .before .before .before .before .before .before .before .before .before .before .before .before .before .before .before .before .before .before .before .before .before .before .pre in
+    let chain = back .before .before .before .before .before .before .before .chain in
+    let pre = further .pre in
     let handed = pre .0 .0 .handed in
     let inv = loop .inv .0 in (
       (
@@ -135,7 +140,9 @@ loop-again c =
 
 same-length : tie.Need-same-length Inv-loop μ-loop
 same-length c =
-    let pre = c .before .before .before .before .before .before .before .before .before .before .before .before .before .before .before .before .before .before .before .pre in
+    let back = c .before .before .before .before .before .before .before .before in
+    let far = back .before .before .before .before .before .before .before .before in
+    let pre = far .before .before .before .pre in
     c .before .loop .inv .0 .queued .same ∙ sym (pre .1 .0)
 
 returns : tie.Need-returns Inv-loop μ-loop

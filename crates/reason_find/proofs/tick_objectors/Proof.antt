@@ -46,7 +46,8 @@ mul-wide-2 c =
 
 shared-slice-read-wide-2 : tie.Need-shared-slice-read-wide-2 Inv-loop μ-loop
 shared-slice-read-wide-2 c =
-    let pre = c .before .before .before .before .before .before .before .before .before .before .before .before .before .before .pre in
+    let back = c .before .before .before .before .before .before .before .before in
+    let pre = back .before .before .before .before .before .before .pre in
     omega (arith, c .before .loop-test .taken, c .before .before .loop .inv .walk .low, pre .0 .1 .next-room)
 
 wide-requires-2 : tie.Need-wide-requires-2 Inv-loop μ-loop
@@ -54,7 +55,8 @@ wide-requires-2 c κs = search needs
 
 belongs-requires : tie.Need-belongs-requires Inv-loop μ-loop
 belongs-requires c κs =
-    let pre = c .before .before .before .before .before .before .before .before .before .before .before .before .before .before .before .pre in
+    let back = c .before .before .before .before .before .before .before .before in
+    let pre = back .before .before .before .before .before .before .before .pre in
     let settled = pre .0 .0 in (
       settled,
       omega (
@@ -67,7 +69,9 @@ belongs-requires c κs =
 
 mul-place : tie.Need-mul-place Inv-loop μ-loop
 mul-place c =
-    let pre = c .before .before .before .before .before .before .before .before .before .before .before .before .before .before .before .before .before .pre in
+    let back = c .before .before .before .before .before .before .before .before in
+    let far = back .before .before .before .before .before .before .before .before in
+    let pre = far .before .pre in
     let settled = pre .0 .0 in
     omega (
       arith,
@@ -79,9 +83,11 @@ mul-place c =
 
 shared-slice-read-place : tie.Need-shared-slice-read-place Inv-loop μ-loop
 shared-slice-read-place c =
+    let back = c .before .before .before .before .before .before .before .before in
+    let far = back .before .before .before .before .before .before .before .before in
     let loop-test = c .before .before .before .before .before .loop-test in
     let loop = c .before .before .before .before .before .before .loop in
-    let pre = c .before .before .before .before .before .before .before .before .before .before .before .before .before .before .before .before .before .before .pre in
+    let pre = far .before .before .pre in
     let settled = pre .0 .0 in
     omega (arith, loop-test .taken, loop .inv .walk .low, settled .handed .order .paired)
 
@@ -90,11 +96,13 @@ place-requires c κs = search needs
 
 tick-statement-requires : tie.Need-tick-statement-requires Inv-loop μ-loop
 tick-statement-requires c κs =
-    let loop-test = c .before .before .before .before .before .before .before .before .loop-test in
-    let pre = c .before .before .before .before .before .before .before .before .before .before .before .before .before .before .before .before .before .before .before .before .before .pre in
-    let args = c .before .before .before .before .before .before .before .before .before .before .before .before .before .before .before .before .before .before .before .before .before .args in
+    let back = c .before .before .before .before .before .before .before .before in
+    let far = back .before .before .before .before .before .before .before .before in
+    let loop-test = back .loop-test in
+    let pre = far .before .before .before .before .before .pre in
+    let args = far .before .before .before .before .before .args in
     let order = pre .0 .0 .handed .order in
-    let loop = c .before .before .before .before .before .before .before .before .before .loop in
+    let loop = back .before .loop in
     let queued = loop .inv .grown .queued in
     let k : loop .c - 1 < length (args .objectors .now) = omega
     (arith, loop-test .taken, loop .inv .walk .low, order .paired) in (
@@ -113,21 +121,27 @@ tick-statement-requires c κs =
 
 loop-less : tie.Need-loop-less Inv-loop μ-loop
 loop-less c =
-    let wide2 = c .before .before .before .before .before .before .before .before .before .before .before .wide2 in
-    let loop-test = c .before .before .before .before .before .before .before .before .before .before .before .before .before .loop-test in
-    let loop = c .before .before .before .before .before .before .before .before .before .before .before .before .before .before .loop in
-    let pre = c .before .before .before .before .before .before .before .before .before .before .before .before .before .before .before .before .before .before .before .before .before .before .before .before .before .before .pre in
+    let back = c .before .before .before .before .before .before .before .before in
+    let far = back .before .before .before .before .before .before .before .before in
+    let further = far .before .before .before .before .before .before .before .before in
+    let wide2 = back .before .before .before .wide2 in
+    let loop-test = back .before .before .before .before .before .loop-test in
+    let loop = back .before .before .before .before .before .before .loop in
+    let pre = further .before .before .pre in
     walk-lower (pre .0 .1 .chained) (loop .inv .walk) (loop-test .taken) (wide2 .ensures)
 
 loop-again : tie.Need-loop-again Inv-loop μ-loop
 loop-again c =
+    let back = c .before .before .before .before .before .before .before .before in
+    let far = back .before .before .before .before .before .before .before .before in
+    let further = far .before .before .before .before .before .before .before .before in
     let place = c .before .before .before .before .before .before .before .place in
-    let if1 = c .before .before .before .before .before .before .before .before .before .if1 in
-    let belongs = c .before .before .before .before .before .before .before .before .before .before .belongs in
-    let wide2 = c .before .before .before .before .before .before .before .before .before .before .before .wide2 in
-    let loop-test = c .before .before .before .before .before .before .before .before .before .before .before .before .before .loop-test in
-    let pre = c .before .before .before .before .before .before .before .before .before .before .before .before .before .before .before .before .before .before .before .before .before .before .before .before .before .before .pre in
-    let loop = c .before .before .before .before .before .before .before .before .before .before .before .before .before .before .loop in
+    let if1 = back .before .if1 in
+    let belongs = back .before .before .belongs in
+    let wide2 = back .before .before .before .wide2 in
+    let loop-test = back .before .before .before .before .before .loop-test in
+    let pre = further .before .before .pre in
+    let loop = back .before .before .before .before .before .before .loop in
     let came = c .before .before .before .before .tick-statement .ensures in
     follow-comes _ _ _ _ _ (pre .0 .1) _ _ _ _ _ _ _ _ _ (loop .inv) (loop-test .taken) _ (wide2 .ensures) _ _ _ _
     (rw (if1 .taken) at (belongs .ensures)) (place .ensures)
@@ -135,13 +149,17 @@ loop-again c =
 
 loop-less-2 : tie.Need-loop-less-2 Inv-loop μ-loop
 loop-less-2 c =
-    let pre = c .before .before .before .before .before .before .before .before .before .before .before .before .before .before .before .before .before .pre in
+    let back = c .before .before .before .before .before .before .before .before in
+    let far = back .before .before .before .before .before .before .before .before in
+    let pre = far .before .pre in
     walk-lower (pre .0 .1 .chained) (c .before .before .before .before .before .loop .inv .walk)
     (c .before .before .before .before .loop-test .taken) (c .before .before .wide2 .ensures)
 
 loop-again-2 : tie.Need-loop-again-2 Inv-loop μ-loop
 loop-again-2 c =
-    let pre = c .before .before .before .before .before .before .before .before .before .before .before .before .before .before .before .before .before .pre in
+    let back = c .before .before .before .before .before .before .before .before in
+    let far = back .before .before .before .before .before .before .before .before in
+    let pre = far .before .pre in
     follow-passes _ _ _ _ _ (pre .0 .1) _ _ _ _ _ _ _ _ _ (c .before .before .before .before .before .loop .inv)
     (c .before .before .before .before .loop-test .taken) _ (c .before .before .wide2 .ensures)
     (rw (c .if1 .left) at (c .before .belongs .ensures))

@@ -16,9 +16,12 @@ enum-known-reading-2 c = search needs
 
 solve-rooms-requires : tie.Need-solve-rooms-requires
 solve-rooms-requires c κs =
-    let args = c .before .before .before .before .before .before .before .before .before .before .before .before .before .before .before .before .before .before .before .before .before .before .before .before .before .before .before .before .args in
-    let pre = c .before .before .before .before .before .before .before .before .before .before .before .before .before .before .before .before .before .before .before .before .before .before .before .before .before .before .before .before .pre in
-    let read = c .before .before .before .before .before .before .before .before .before .before .before .before .before .before .before .before .read in
+    let back = c .before .before .before .before .before .before .before .before in
+    let far = back .before .before .before .before .before .before .before .before in
+    let further = far .before .before .before .before .before .before .before .before in
+    let args = further .before .before .before .before .args in
+    let pre = further .before .before .before .before .pre in
+    let read = far .read in
     let reading2 = c .before .before .before .before .before .before .reading2 in
     let text = args .text .now in
     let f = few text (read .last .1 .0) (read .last .1 .1 .0) (read .last .1 .1 .1 .0) (read .last .1 .1 .1 .1 .0)
@@ -72,9 +75,13 @@ same-length-10 c = search needs
 
 returns-2 : tie.Need-returns-2
 returns-2 c =
-    let args = c .before .before .before .before .before .before .before .before .before .before .before .before .before .before .before .before .before .before .before .before .before .before .before .before .before .before .before .before .before .before .before .before .before .args in
-    let read = c .before .before .before .before .before .before .before .before .before .before .before .before .before .before .before .before .before .before .before .before .before .read in
-    let reading2 = c .before .before .before .before .before .before .before .before .before .before .before .reading2 in
+    let back = c .before .before .before .before .before .before .before .before in
+    let far = back .before .before .before .before .before .before .before .before in
+    let further = far .before .before .before .before .before .before .before .before in
+    let furthest = further .before .before .before .before .before .before .before .before in
+    let args = furthest .before .args in
+    let read = far .before .before .before .before .before .read in
+    let reading2 = back .before .before .before .reading2 in
     rooms-solved (args .text .now) (read .last .1 .0) (read .last .1 .1 .0) (read .last .1 .1 .1 .0) (read .last .1 .1 .1 .1 .0)
     (reading2 .given .0 .0) (reading2 .given .0 .1 .0) (rw (reading2 .given .1) at (read .ensures)) _ _ _ _
     (c .before .before .before .before .solve-rooms .ensures)

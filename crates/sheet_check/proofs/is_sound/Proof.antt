@@ -45,11 +45,12 @@ own-totals-requires c κs = search needs
 
 returns-4 : tie.Need-returns-4
 returns-4 c =
-    let args = c .before .before .before .before .before .before .before .before .before .before .before .args in
+    let back = c .before .before .before .before .before .before .before .before in
+    let args = back .before .before .before .args in
     let spare = c .before .before .before .before .before .before .before .spare-clear in
     let tally = c .before .before .before .before .tally in
     sound-by-totals (args .n) (args .sheet .now) (args .totals .now) (tally .last .1 .1 .0) (tally .ensures)
-    (c .before .before .before .before .before .before .before .before .if1 .left) (granted (spare .result) (c .before .before .before .before .before .before .if2 .left) (spare .ensures))
+    (back .if1 .left) (granted (spare .result) (c .before .before .before .before .before .before .if2 .left) (spare .ensures))
     (c .before .before .if3 .left) (c .own-totals .result) (c .own-totals .ensures)
 
 pub is-sound-spec : {M : Type 1} → statement M

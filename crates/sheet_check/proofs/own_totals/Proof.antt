@@ -44,8 +44,11 @@ loop-less c = search needs
 
 loop-again : tie.Need-loop-again Inv-loop μ-loop
 loop-again c =
-    let args = c .before .before .before .before .before .before .args in
-    (omega arith, own-more _ (args .counts .now) (args .totals .now) (c .before .before .before .before .before .loop .inv .1) (c .if2 .left))
+    let args = c .before .before .before .before .before .before .args in (
+      omega arith,
+      own-more _ (args .counts .now) (args .totals .now) (c .before .before .before .before .before .loop .inv .1)
+          (c .if2 .left),
+    )
 
 returns-3 : tie.Need-returns-3 Inv-loop μ-loop
 returns-3 c = λ j h l. c .before .loop .inv .1 j (omega arith) l

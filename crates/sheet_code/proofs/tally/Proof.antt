@@ -36,7 +36,8 @@ slice-read-counts c = omega (
   c .before .before .before .before .loop .inv .1,
   c .before .wide .ensures,
   c .before .before .code-at .ensures,
-  code-small (c .before .before .before .before .before .before .before .args .sheet .now) (c .before .before .before .before .loop .x),
+  code-small (c .before .before .before .before .before .before .before .args .sheet .now)
+      (c .before .before .before .before .loop .x),
 )
 
 add-counts : tie.Need-add-counts Inv-loop μ-loop

@@ -58,10 +58,11 @@ same-length-6 c = search needs
 
 returns-3 : tie.Need-returns-3
 returns-3 c =
-    let args = c .before .before .before .before .before .before .before .before .before .before .before .before .before .before .before .args in
+    let back = c .before .before .before .before .before .before .before .before in
+    let args = back .before .before .before .before .before .before .before .args in
     let update = c .before .before .before .before .update in
-    let is-sound = c .before .before .before .before .before .before .before .before .before .is-sound in
-    let sound = granted (is-sound .result) (c .before .before .before .before .before .before .before .before .if1 .left) (is-sound .ensures) in
+    let is-sound = back .before .is-sound in
+    let sound = granted (is-sound .result) (back .if1 .left) (is-sound .ensures) in
     λ B of. updated B (args .n) (args .labels .now) of (args .sheet .now) (args .totals .now) (update .last .1 .1 .0)
     (update .last .1 .1 .1 .0) sound (update .ensures)
 

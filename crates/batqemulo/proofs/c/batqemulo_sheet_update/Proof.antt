@@ -16,7 +16,8 @@ same-length-2 : tie.Need-same-length-2
 same-length-2 c = search needs
 
 returns : tie.Need-returns
-returns c = let call = c .before .before .before .before .before .text-sheet-update in (call .result, call .ensures, c .in-c .ensures)
+returns c = let call = c .before .before .before .before .before .text-sheet-update in
+    (call .result, call .ensures, c .in-c .ensures)
 
 pub batqemulo-sheet-update-spec : {M : Type 1} → statement M
 batqemulo-sheet-update-spec =

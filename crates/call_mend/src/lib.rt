@@ -8,10 +8,7 @@ use answer::Answer;
 use answer::Refusal;
 use register::TextFault;
 ghost use mathlib.Core.List.{List};
-ghost use Prim.Native.Nat.{ℕ, _≤_};
-ghost use lib.ListN.{length};
 ghost use Rattle.mend.specs.TextLines.{TextLine};
-ghost use Rattle.mend_text.specs.Passes.{StatementRooms, ObjectionRooms, TextSettled};
 ghost use Rattle.promises.specs.MendCalls.{TextMend};
 ghost use Rattle.call_mend.specs.MendedLists.{MendedLists, MendWritten};
 
@@ -46,41 +43,6 @@ fn write_mended(
     Answer::Given(size as u32)
 }
 
-// Writes what rooms begin with: n statements, m objections and the fates of all lines.
-fn mend_rooms(
-    numbers: &[u32],
-    marks: &[u8],
-    objectors: &[u32],
-    targets: &[u32],
-    fates: &[u8],
-    n: usize,
-    m: usize,
-    lines: usize,
-    room: &mut [u8],
-    report: &mut [u8],
-    report_written: &mut u32,
-) -> Answer
-    requires { ⌜ StatementRooms (now numbers) (now marks) (now fates) × ObjectionRooms (now objectors) (now targets) ⌝ }
-    requires { ⌜ ((text : List ℕ) × (length text ≤ 65535) × TextSettled text (record { statements = n; objections = m; lines = lines })
-        (now numbers) (now marks) (now objectors) (now targets) (now fates)) ⌝ }
-    ensures { λ a. ⌜ ((text : List ℕ) → length text ≤ 65535
-        → TextSettled text (record { statements = n; objections = m; lines = lines }) (now (numbers .entry)) (now (marks .entry))
-        (now (objectors .entry)) (now (targets .entry)) (now (fates .entry)) → TextMend text
-        (now (room .entry), now (report .entry), now («report_written» .entry)) a
-        (now (room .exit), now (report .exit), now («report_written» .exit))) ⌝ }
-{
-    write_mended(
-        &numbers[..n],
-        &marks[..n],
-        &objectors[..m],
-        &targets[..m],
-        &fates[..lines],
-        room,
-        report,
-        report_written,
-    )
-}
-
 // Mends a text.
 pub fn text_mend(
     text: &[u8],
@@ -107,15 +69,15 @@ pub fn text_mend(
         &mut targets,
         &mut fates,
     );
-    mend_rooms(
-        &numbers,
-        &marks,
-        &objectors,
-        &targets,
-        &fates,
-        settled.statements,
-        settled.objections,
-        settled.lines,
+    let n = settled.statements;
+    let m = settled.objections;
+    let lines = settled.lines;
+    write_mended(
+        &numbers[..n],
+        &marks[..n],
+        &objectors[..m],
+        &targets[..m],
+        &fates[..lines],
         room,
         report,
         report_written,

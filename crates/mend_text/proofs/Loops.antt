@@ -85,10 +85,10 @@ stating-first s ls nums marks links fates p i = record {
 
 pub stating-next : (s : List ℕ) (ls : List TextLine) (at n k : ℕ) (late : Bool) (nums marks links fates : List ℕ)
     → (v : Stating s ls at n k late nums marks links fates) → k < length fates → (r : StatementPass)
-    (nums′ marks′ links′ fates′ : List ℕ) → StatementPassed s at (v .rest) (v .S) late fates k r nums′ marks′ links′ fates′
-    → Stating s ls (r .next) (r .statements) (k + 1) (r .late) nums′ marks′ links′ fates′
+    (nums′ marks′ links′ : List ℕ) → StatementPassed s at (v .rest) (v .S) late r nums′ marks′ links′
+    → Stating s ls (r .next) (r .statements) (k + 1) (r .late) nums′ marks′ links′ (set fates k (r .fate))
 unfolding withStatements firstFates
-stating-next s ls at n k late nums marks links fates v h r nums′ marks′ links′ fates′ q = record {
+stating-next s ls at n k late nums marks links fates v h r nums′ marks′ links′ q = record {
   lines-of = v .lines-of;
   rest = q .passed .more;
   place = place-next s ls at k (v .rest) (r .next) (q .line) (v .place) (q .passed);
@@ -97,28 +97,29 @@ stating-next s ls at n k late nums marks links fates v h r nums′ marks′ link
   kept = v .kept ∙ ap (withStatements (v .S)) (q .passed .first);
   fates-are =
       v .fates-are ∙ ap (λ u. take k fates ++ firstFates (v .S) late u) (q .passed .first)
-      ∙ put-fate fates k (firstFate (v .S) late (q .line)) (firstFates (withStatement (v .S) (q .line)) (lateAfter late (q .line)) (q .passed .more)) h
-      ∙ ap (λ u. take (k + 1) u ++ firstFates (withStatement (v .S) (q .line)) (lateAfter late (q .line)) (q .passed .more))
-      (sym (q .fates-are))
-      ∙ ap (λ b. take (k + 1) fates′ ++ firstFates (withStatement (v .S) (q .line)) b (q .passed .more)) (sym (q .late-is));
+      ∙ ap (λ f. take k fates ++ (f ∷ waiting (lateAfter late (q .line)))) (sym (q .fate-is))
+      ∙ put-fate fates k (r .fate) (waiting (lateAfter late (q .line))) h
+      ∙ ap (λ b. take (k + 1) (set fates k (r .fate)) ++ waiting b) (sym (q .late-is));
 }
+  where
+    -- the fates of the lines behind this one
+    waiting : Bool → List ℕ
+    waiting b = firstFates (withStatement (v .S) (q .line)) b (q .passed .more)
 
 pub stating-last : (s : List ℕ) (ls : List TextLine) (at n k : ℕ) (late : Bool) (nums marks links fates : List ℕ)
     → Stating s ls at n k late nums marks links fates → length s ≤ at
-    → StatementsSettled s ls n nums marks links fates × (k ≡ length ls)
+    → StatementsSettled s ls n nums marks links fates
 unfolding withStatements firstFates
 stating-last s ls at n k late nums marks links fates v h =
     let none : v .rest ≡ [] = place-last s ls at k (v .rest) (v .place) h in
-    let c : length ls ≡ k = v .place .counted ∙ omega (arith, ap length none) in (
-      record {
-        lines-of = v .lines-of;
-        stated = subst (λ S. Stated S n nums marks links) (sym (v .kept ∙ ap (withStatements (v .S)) none)) (v .stated);
-        fates-are =
-            ap (λ j. take j fates) c ∙ sym (append-nil (take k fates))
-            ∙ sym (v .fates-are ∙ ap (λ u. take k fates ++ firstFates (v .S) late u) none);
-      },
-      sym c,
-    )
+    let c : length ls ≡ k = v .place .counted ∙ omega (arith, ap length none) in
+    record {
+      lines-of = v .lines-of;
+      stated = subst (λ S. Stated S n nums marks links) (sym (v .kept ∙ ap (withStatements (v .S)) none)) (v .stated);
+      fates-are =
+          ap (λ j. take j fates) c ∙ sym (append-nil (take k fates))
+          ∙ sym (v .fates-are ∙ ap (λ u. take k fates ++ firstFates (v .S) late u) none);
+    }
 
 -- While objections are settled.
 pub record Objecting (s : List ℕ) (ls : List TextLine) (at n m k : ℕ) (nums marks objectors targets fates-room : List ℕ) : Type 0 where
@@ -219,19 +220,21 @@ objecting-next s ls at n m k nums marks objectors targets room v h few r marks�
 
 pub objecting-last : (s : List ℕ) (ls : List TextLine) (at n m k : ℕ) (nums marks objectors targets fates-room : List ℕ)
     → Objecting s ls at n m k nums marks objectors targets fates-room → length s ≤ at
-    → ObjectionsSettled ls n m nums marks objectors targets fates-room
+    → ObjectionsSettled ls n m nums marks objectors targets fates-room × (k ≡ length ls)
 unfolding withObjections fatesFrom
 objecting-last s ls at n m k nums marks objectors targets room v h =
     let none : v .rest ≡ [] = place-last s ls at k (v .rest) (v .place) h in
     let c : length ls ≡ k = v .place .counted ∙ omega (arith, ap length none) in
-    let e : mended ls ≡ v .R = v .kept ∙ ap (withObjections (v .R)) none in
-    record {
-      valid = subst Valid (sym e) (v .valid);
-      holds = subst (λ Q. Holds Q n m nums marks objectors targets) (sym e) (v .holds);
-      fates-are =
-          ap (λ j. take j room) c ∙ sym (append-nil (take k room))
-          ∙ sym (v .fates-are ∙ ap (λ u. take k room ++ fatesFrom (v .S) (v .late) (v .R) u) none);
-    }
+    let e : mended ls ≡ v .R = v .kept ∙ ap (withObjections (v .R)) none in (
+      record {
+        valid = subst Valid (sym e) (v .valid);
+        holds = subst (λ Q. Holds Q n m nums marks objectors targets) (sym e) (v .holds);
+        fates-are =
+            ap (λ j. take j room) c ∙ sym (append-nil (take k room))
+            ∙ sym (v .fates-are ∙ ap (λ u. take k room ++ fatesFrom (v .S) (v .late) (v .R) u) none);
+      },
+      sym c,
+    )
 
 -- what is settled in linked rooms is settled in the lists given back
 pub settled-back : (ls : List TextLine) (n m : ℕ) (nums marks objectors targets fates-room objectors′ targets′ : List ℕ)

@@ -21,32 +21,31 @@ use Rattle.mend_text.proofs.LineAt.{pass-unended, pass-spoiled, pass-go
 
 -- While statements are settled.
 module _ (s : List ℕ) (at : ℕ) (ls : List TextLine) (lines : LinesOf (drop at s) ls) (S : List StatementLine) (n : ℕ)
-    (nums marks links : List ℕ) (stated : Stated S n nums marks links) (late : Bool) (fates : List ℕ) (k : ℕ) where
+    (nums marks links : List ℕ) (stated : Stated S n nums marks links) (late : Bool) where
   pub past-unended : at < length s → AnyLineAt s at Unended
-      → StatementPassed s at ls S late fates k (record { next = length s; statements = n; late = late }) nums marks links (set fates k 2)
+      → StatementPassed s at ls S late (record { fate = 2; next = length s; statements = n; late = late }) nums marks links
   past-unended h u =
-      record { line = unended; passed = pass-unended s at ls lines h u; stated = stated; late-is = refl; fates-are = refl }
+      record { line = unended; passed = pass-unended s at ls lines h u; stated = stated; late-is = refl; fate-is = refl }
 
   pub past-spoiled : (next : ℕ) → AnyLineAt s at (Spoiled next)
-      → StatementPassed s at ls S late fates k (record { next = next; statements = n; late = late }) nums marks links (set fates k 3)
+      → StatementPassed s at ls S late (record { fate = 3; next = next; statements = n; late = late }) nums marks links
   past-spoiled next u =
-      record { line = spoiled; passed = pass-spoiled s at ls lines next u; stated = stated; late-is = refl; fates-are = refl }
+      record { line = spoiled; passed = pass-spoiled s at ls lines next u; stated = stated; late-is = refl; fate-is = refl }
 
   pub past-objection : (o : ObjectionLine) (next : ℕ) → AnyLineAt s at (Good (Objection o) next)
-      → StatementPassed s at ls S late fates k (record { next = next; statements = n; late = true }) nums marks links (set fates k 0)
+      → StatementPassed s at ls S late (record { fate = 0; next = next; statements = n; late = true }) nums marks links
   past-objection o next g = record {
     line = good (Objection o);
     passed = pass-good s at ls lines (Objection o) next g;
     stated = stated;
     late-is = refl;
-    fates-are = refl;
+    fate-is = refl;
   }
 
   pub past-statement : (st : StatementLine) (next : ℕ) → AnyLineAt s at (Good (Statement st) next) → 1024 ≤ length nums
       → 1024 ≤ length marks → (f : ℕ) (nums′ marks′ links′ : List ℕ) → StatementSettled nums marks n st f nums′ marks′ links′
       → (n′ fate : ℕ) → n′ ≡ cond (eqb f 0) (n + 1) n → fate ≡ movedIf late f
-      → StatementPassed s at ls S late fates k (record { next = next; statements = n′; late = late }) nums′ marks′ links′
-      (set fates k fate)
+      → StatementPassed s at ls S late (record { fate = fate; next = next; statements = n′; late = late }) nums′ marks′ links′
   past-statement st next g a b f nums′ marks′ links′ settled n′ fate counted moved =
       let (e, now-stated) = statement-stated S n nums marks links stated st (g .0) a b f nums′ marks′ links′ settled in
       record {
@@ -54,7 +53,7 @@ module _ (s : List ℕ) (at : ℕ) (ls : List TextLine) (lines : LinesOf (drop a
         passed = pass-good s at ls lines (Statement st) next g;
         stated = rw counted now-stated;
         late-is = refl;
-        fates-are = ap (set fates k) (moved ∙ ap (movedIf late) e);
+        fate-is = moved ∙ ap (movedIf late) e;
       }
 
 -- While objections are settled.

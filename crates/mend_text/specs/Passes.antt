@@ -65,13 +65,13 @@ pub record Passed (s : List ℕ) (at : ℕ) (ls : List TextLine) (next : ℕ) (l
   pub within : next ≤ length s
 
 -- One line passed while statements are settled, and while objections are.
-pub record StatementPassed (s : List ℕ) (at : ℕ) (ls : List TextLine) (S : List StatementLine) (late : Bool) (fates : List ℕ) (k : ℕ)
-    (r : StatementPass) (nums′ marks′ links′ fates′ : List ℕ) : Type 0 where
+pub record StatementPassed (s : List ℕ) (at : ℕ) (ls : List TextLine) (S : List StatementLine) (late : Bool) (r : StatementPass)
+    (nums′ marks′ links′ : List ℕ) : Type 0 where
   pub line : TextLine
   pub passed : Passed s at ls (r .next) line
   pub stated : Stated (withStatement S line) (r .statements) nums′ marks′ links′
   pub late-is : r .late ≡ lateAfter late line
-  pub fates-are : fates′ ≡ set fates k (firstFate S late line)
+  pub fate-is : r .fate ≡ firstFate S late line
 
 pub record ObjectionPassed (s : List ℕ) (at : ℕ) (ls : List TextLine) (R : Register) (n : ℕ) (fates : List ℕ) (k : ℕ)
     (r : ObjectionPass) (nums marks′ objectors′ targets′ fates′ : List ℕ) : Type 0 where

@@ -18,7 +18,7 @@ ghost use Rattle.mend_line.specs.SettledRooms.{Stated};
 ghost use Rattle.pair_words.specs.Words.{objectorsIn, targetsIn};
 ghost use Rattle.pair_repeat.specs.Entered.{Entered};
 ghost use Rattle.mend_text.specs.Passes.{NextEnd, AnyLineAt, StatementPassed, StatementRooms, StatementsSettled};
-ghost use Rattle.mend_text.specs.Passes.{ObjectionRooms, ObjectionPassed, ObjectionsSettled, TextSettled};
+ghost use Rattle.mend_text.specs.Passes.{ObjectionRooms, ObjectionPassed, TextSettled};
 
 // A line of any text, and where the next one starts. An unended line is the last.
 pub enum AnyLine {
@@ -27,8 +27,9 @@ pub enum AnyLine {
     Unended,
 }
 
-// Behind a line: the place, how many statements are kept, and whether a statement is late there.
+// The fate of a line, and behind it the place, how many statements are kept, and whether a statement is late there.
 pub struct StatementPass {
+    pub fate: u8,
     pub next: usize,
     pub statements: usize,
     pub late: bool,
@@ -95,56 +96,46 @@ fn kept(n: usize, fate: u8) -> usize
     if fate == 0 { n + 1 } else { n }
 }
 
-// Passes the line at a place while statements are settled, and puts its fate: that of an objection waits.
+// Passes the line at a place while statements are settled: the fate of an objection waits.
 fn pass_statement(
     text: &[u8],
     at: usize,
     numbers: &mut [u32],
     marks: &mut [u8],
     links: &mut [u16],
-    fates: &mut [u8],
-    k: usize,
     n: usize,
     late: bool,
 ) -> StatementPass
-    requires { ⌜ (at < length (now text)) × (k < length (now fates)) × (n ≤ 1024) × (1024 ≤ length (now numbers))
-        × (1024 ≤ length (now marks)) ⌝ }
+    requires { ⌜ (at < length (now text)) × (n ≤ 1024) × (1024 ≤ length (now numbers)) × (1024 ≤ length (now marks)) ⌝ }
     requires { ⌜ Indexed (now numbers) n (now links) ⌝ }
     ensures { λ r. ⌜ ((ls : List TextLine) (S : List StatementLine) → LinesOf (drop at (now (text .entry))) ls
         → Stated S n (now (numbers .entry)) (now (marks .entry)) (now (links .entry))
-        → StatementPassed (now (text .entry)) at ls S late (now (fates .entry)) k r (now (numbers .exit)) (now (marks .exit))
-        (now (links .exit)) (now (fates .exit))) ⌝ }
+        → StatementPassed (now (text .entry)) at ls S late r (now (numbers .exit)) (now (marks .exit)) (now (links .exit))) ⌝ }
 {
     match any_line(text, at) {
-        AnyLine::Unended => {
-            fates[k] = 2;
-            StatementPass {
-                next: text.len(),
-                statements: n,
-                late,
-            }
-        }
-        AnyLine::Spoiled(next) => {
-            fates[k] = 3;
-            StatementPass {
+        AnyLine::Unended => StatementPass {
+            fate: 2,
+            next: text.len(),
+            statements: n,
+            late,
+        },
+        AnyLine::Spoiled(next) => StatementPass {
+            fate: 3,
+            next,
+            statements: n,
+            late,
+        },
+        AnyLine::Good(line, next) => match line {
+            Line::Objection(_) => StatementPass {
+                fate: 0,
                 next,
                 statements: n,
-                late,
-            }
-        }
-        AnyLine::Good(line, next) => match line {
-            Line::Objection(_) => {
-                fates[k] = 0;
-                StatementPass {
-                    next,
-                    statements: n,
-                    late: true,
-                }
-            }
+                late: true,
+            },
             Line::Statement(statement) => {
                 let fate = mend_line::settle_statement(numbers, marks, links, n, statement);
-                fates[k] = moved_if(late, fate);
                 StatementPass {
+                    fate: moved_if(late, fate),
                     next,
                     statements: kept(n, fate),
                     late,
@@ -154,18 +145,18 @@ fn pass_statement(
     }
 }
 
-// Settles the statements of a text, line by line.
+// Settles the statements of a text, line by line, and answers how many are kept.
 fn settle_statements(
     text: &[u8],
     numbers: &mut [u32],
     marks: &mut [u8],
     links: &mut [u16],
     fates: &mut [u8],
-) -> KeptCounts
+) -> usize
     requires { ⌜ (length (now text) ≤ 65535) × StatementRooms (now numbers) (now marks) (now fates) ⌝ }
     requires { ⌜ Indexed (now numbers) 0 (now links) ⌝ }
-    ensures { λ r. ⌜ ((ls : List TextLine) × StatementsSettled (now (text .entry)) ls (r .statements) (now (numbers .exit))
-        (now (marks .exit)) (now (links .exit)) (now (fates .exit)) × (r .lines ≡ length ls)) ⌝ }
+    ensures { λ n. ⌜ ((ls : List TextLine) × StatementsSettled (now (text .entry)) ls n (now (numbers .exit)) (now (marks .exit))
+        (now (links .exit)) (now (fates .exit))) ⌝ }
 {
     let mut at = 0;
     let mut n = 0;
@@ -173,17 +164,14 @@ fn settle_statements(
     let mut late = false;
     // The k lines before `at` have a fate, and the rooms hold their n kept statements; `late` tells whether an objection came.
     while at < text.len() {
-        let pass = pass_statement(text, at, numbers, marks, links, fates, k, n, late);
+        let pass = pass_statement(text, at, numbers, marks, links, n, late);
+        fates[k] = pass.fate;
         at = pass.next;
         n = pass.statements;
         late = pass.late;
         k += 1;
     }
-    KeptCounts {
-        statements: n,
-        objections: 0,
-        lines: k,
-    }
+    n
 }
 
 // Passes the line at a place while objections are settled, and puts the fate of an objection.
@@ -245,8 +233,8 @@ fn pass_objection(
     }
 }
 
-// Settles the objections of a text whose statements are settled, and answers how many are kept. Meanwhile the rooms for objectors
-// and targets hold those kept linked; at the end they hold the two lists.
+// Settles the objections of a text whose n statements are settled. Meanwhile the rooms for objectors and targets hold those kept
+// linked; at the end they hold the two lists.
 fn settle_objections(
     text: &[u8],
     numbers: &[u32],
@@ -256,13 +244,12 @@ fn settle_objections(
     targets: &mut [u32],
     fates: &mut [u8],
     n: usize,
-) -> usize
+) -> KeptCounts
     requires { ⌜ (length (now text) ≤ 65535) × StatementRooms (now numbers) (now marks) (now fates)
         × ObjectionRooms (now objectors) (now targets) ⌝ }
     requires { ⌜ ((ls : List TextLine) × StatementsSettled (now text) ls n (now numbers) (now marks) (now links) (now fates)) ⌝ }
-    ensures { λ m. ⌜ ((ls : List TextLine) → StatementsSettled (now (text .entry)) ls n (now (numbers .entry)) (now (marks .entry))
-        (now (links .entry)) (now (fates .entry)) → ObjectionsSettled ls n m (now (numbers .entry)) (now (marks .exit))
-        (now (objectors .exit)) (now (targets .exit)) (now (fates .exit))) ⌝ }
+    ensures { λ r. ⌜ TextSettled (now (text .entry)) r (now (numbers .entry)) (now (marks .exit)) (now (objectors .exit))
+        (now (targets .exit)) (now (fates .exit)) ⌝ }
 {
     pair_repeat::begin(objectors, targets, n, 0);
     let mut at = 0;
@@ -288,7 +275,11 @@ fn settle_objections(
         k += 1;
     }
     pair_repeat::unpack(objectors, targets, m);
-    m
+    KeptCounts {
+        statements: n,
+        objections: m,
+        lines: k,
+    }
 }
 
 // Settles a text in rooms for 1,024 statements, 4,096 objections and 65,535 fates.
@@ -306,12 +297,6 @@ pub fn settle_text(
         (now (targets .exit)) (now (fates .exit)) ⌝ }
 {
     let mut links = [0u16; 8200];
-    let stated = settle_statements(text, numbers, marks, &mut links, fates);
-    let n = stated.statements;
-    let m = settle_objections(text, numbers, marks, &links, objectors, targets, fates, n);
-    KeptCounts {
-        statements: n,
-        objections: m,
-        lines: stated.lines,
-    }
+    let n = settle_statements(text, numbers, marks, &mut links, fates);
+    settle_objections(text, numbers, marks, &links, objectors, targets, fates, n)
 }

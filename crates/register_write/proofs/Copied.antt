@@ -1,11 +1,12 @@
 -- The text of the lists that a register makes is the written register, and such lists can be copied; how long the text is, and
 -- that it is put part by part.
 use mathlib.Core.List.{List, map, [], _∷_, _++_}
-use mathlib.Core.Path.{ap₂, refl, ap, sym, _≡_, _∙_}
+use mathlib.Core.Path.{ap₂, refl, ap, sym, subst, _≡_, _∙_}
 use Prim.Native.Nat.{ℕ, _+_, _*_, _≤_, _<_}
 use native.Mathlib.Omega.{arith}
 use lib.ListN.{length, getD, length-append, drop, length-map}
 use Rattle.register.specs.Lines.{markNumber, lineBytes}
+use Rattle.register.specs.Number.{numberBytes}
 use Rattle.register.specs.declared.Mark.{Mark}
 use Rattle.register.specs.declared.Mark.the-variants.{Read, Unread}
 use Rattle.register.specs.declared.StatementLine.{StatementLine}
@@ -22,7 +23,7 @@ use Rattle.register_write.specs.Copied.{statementText, objectionText, ob
 use Rattle.register_write.specs.Copied.{objectionsText, markOf, statementBytes, Copyable}
 use Rattle.register.proofs.TextRows.{rows-small, no-rows, row-first, rows-same}
 use Rattle.room_write.proofs.Writing.{put-start, put-behind}
-use Rattle.register_write.proofs.PutLines.{statement-small, objection-small}
+use Rattle.register_write.proofs.PutLines.{statement-small, objection-small, objection-length}
 
 -- The parts are not long, and the text is one behind the other.
 module _ (nums : List ℕ) where
@@ -40,6 +41,16 @@ module _ (nums : List ℕ) where
     pub own-text : (k : ℕ) {y x : ℕ} → y ≡ getD objectors k 0 → x ≡ getD targets k 0
         → objectionBytes (getD nums y 0) (getD nums x 0) ≡ objectionText nums objectors targets k
     own-text k p q = ap₂ (λ a b. objectionBytes (getD nums a 0) (getD nums b 0)) p q
+
+    pub own-length : (k : ℕ) {y x : ℕ} → y ≡ getD objectors k 0 → x ≡ getD targets k 0
+        → length (objectionText nums objectors targets k) ≡ length (numberBytes (getD nums y 0)) + length
+        (numberBytes (getD nums x 0)) + 4
+    own-length k {y} {x} p q = sym (ap length (own-text k p q)) ∙ objection-length (getD nums y 0) (getD nums x 0)
+
+    pub own-put : (k : ℕ) {y x : ℕ} → y ≡ getD objectors k 0 → x ≡ getD targets k 0 → (room : List ℕ) (at : ℕ) {e : ℕ}
+        {r : List ℕ} → Put room at (objectionBytes (getD nums y 0) (getD nums x 0)) e r
+        → Put room at (objectionText nums objectors targets k) e r
+    own-put k p q room at {e} {r} = subst (λ u. Put room at u e r) (own-text k p q)
 
     pub copied-length : (marks : List ℕ) → length (copied nums marks objectors targets) ≡ length (statementsText nums marks) +
         length (objectionsText nums objectors targets)

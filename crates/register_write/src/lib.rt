@@ -6,11 +6,11 @@ use register_number::put_number;
 use room_write::put_word;
 ghost use mathlib.Core.List.{List, _++_};
 ghost use mathlib.Core.Path.{_≡_};
-ghost use Prim.Native.Nat.{_≤_, ℕ};
+ghost use Prim.Native.Nat.{_≤_, _<_, ℕ};
 ghost use lib.ListN.{length, drop};
 ghost use Rattle.room_write.specs.Writing.{RoomFor, Put};
 ghost use Rattle.register_write.specs.Copied.{statementsText, Copyable, objectionsText, copied, markEnd, statementBytes};
-ghost use Rattle.register_write.specs.Copied.{objectionBytes};
+ghost use Rattle.register_write.specs.Copied.{objectionText};
 
 // The size of all statement lines: every mark is one byte, so the marks are not asked for.
 fn statements_size(numbers: &[u32]) -> usize
@@ -75,15 +75,26 @@ fn put_statement(room: &mut [u8], at: usize, number: u32, mark: u8) -> usize
     put_mark(room, mark_at, mark)
 }
 
-// An objection line.
-fn put_objection(room: &mut [u8], at: usize, objector: u32, target: u32) -> usize
-    requires { ⌜ RoomFor (now room) at (objectionBytes objector target) ⌝ }
-    ensures { λ r. ⌜ Put (now (room .entry)) at (objectionBytes objector target) r (now (room .exit)) ⌝ }
+// The line of an objection. The target is read behind the objector's number, so that it need not be kept meanwhile.
+fn put_objection(
+    room: &mut [u8],
+    at: usize,
+    numbers: &[u32],
+    objectors: &[u32],
+    targets: &[u32],
+    k: usize,
+) -> usize
+    requires { ⌜ Copyable (now numbers) (now objectors) (now targets) × (k < length (now objectors)) ⌝ }
+    requires { ⌜ RoomFor (now room) at (objectionText (now numbers) (now objectors) (now targets) k) ⌝ }
+    ensures { λ r. ⌜ Put (now (room .entry)) at (objectionText (now (numbers .entry)) (now (objectors .entry))
+        (now (targets .entry)) k) r (now (room .exit)) ⌝ }
 {
+    let objector = place(objectors[k]);
     let objector_at = put_word(room, at, b"O\t");
-    let tab = put_number(room, objector_at, objector);
+    let tab = put_number(room, objector_at, numbers[objector]);
+    let target = place(targets[k]);
     let target_at = put_word(room, tab, b"\t");
-    let line_end = put_number(room, target_at, target);
+    let line_end = put_number(room, target_at, numbers[target]);
     put_word(room, line_end, b"\n")
 }
 
@@ -121,9 +132,7 @@ fn put_objections(
     let mut k = 0;
     // From `at` to `end` the room holds the lines of the first k objections, and elsewhere it is as it was.
     while k < objectors.len() {
-        let y = place(objectors[k]);
-        let x = place(targets[k]);
-        end = put_objection(room, end, numbers[y], numbers[x]);
+        end = put_objection(room, end, numbers, objectors, targets, k);
         k += 1;
     }
     end

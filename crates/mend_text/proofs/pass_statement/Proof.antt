@@ -18,23 +18,14 @@ any-line-requires c κs = search needs
 enum-told : tie.Need-enum-told
 enum-told c = search needs
 
-slice-write-fates : tie.Need-slice-write-fates
-slice-write-fates c = search needs
-
 enum-known-next : tie.Need-enum-known-next
 enum-known-next c = search needs
-
-slice-write-fates-2 : tie.Need-slice-write-fates-2
-slice-write-fates-2 c = search needs
 
 enum-known-line : tie.Need-enum-known-line
 enum-known-line c = search needs
 
 enum-told-2 : tie.Need-enum-told-2
 enum-told-2 c = search needs
-
-slice-write-fates-3 : tie.Need-slice-write-fates-3
-slice-write-fates-3 c = search needs
 
 enum-known-line-2 : tie.Need-enum-known-line-2
 enum-known-line-2 c = search needs
@@ -45,60 +36,45 @@ settle-statement-requires c κs = search needs
 moved-if-requires : tie.Need-moved-if-requires
 moved-if-requires c κs = search needs
 
-slice-write-fates-4 : tie.Need-slice-write-fates-4
-slice-write-fates-4 c = search needs
-
 kept-requires : tie.Need-kept-requires
 kept-requires c κs = search needs
-
-same-length : tie.Need-same-length
-same-length c = search needs
 
 returns : tie.Need-returns
 returns c =
     let read = c .before .before in
-    let args = read .before .before .before .before .before .before .args in
-    let pre = read .before .before .before .before .before .before .pre in
+    let args = read .before .before .before .before .before .args in
+    let pre = read .before .before .before .before .before .pre in
     λ ls S lines stated. past-unended (args .text .now) (args .at) ls lines S (args .n) (args .numbers .now) (args .marks .now)
-    (args .links .now) stated (args .late) (args .fates .now) (args .k) (pre .0 .0)
+    (args .links .now) stated (args .late) (pre .0 .0)
     (rw (c .enum-told .given .1) at (read .any-line .ensures))
-
-same-length-2 : tie.Need-same-length-2
-same-length-2 c = search needs
 
 returns-2 : tie.Need-returns-2
 returns-2 c =
     let next = c .before .next in
     let read = c .before .before .before in
-    let args = read .before .before .before .before .before .before .args in
+    let args = read .before .before .before .before .before .args in
     λ ls S lines stated. past-spoiled (args .text .now) (args .at) ls lines S (args .n) (args .numbers .now) (args .marks .now)
-    (args .links .now) stated (args .late) (args .fates .now) (args .k) (next .given .0 .0)
+    (args .links .now) stated (args .late) (next .given .0 .0)
     (rw (next .given .1) at (read .any-line .ensures))
-
-same-length-3 : tie.Need-same-length-3
-same-length-3 c = search needs
 
 returns-3 : tie.Need-returns-3
 returns-3 c =
     let objection = c .enum-told2 in
     let line = c .before .before .before .line in
     let read = c .before .before .before .before .before in
-    let args = read .before .before .before .before .before .before .args in
+    let args = read .before .before .before .before .before .args in
     λ ls S lines stated. past-objection (args .text .now) (args .at) ls lines S (args .n) (args .numbers .now) (args .marks .now)
-    (args .links .now) stated (args .late) (args .fates .now) (args .k) (objection .given .0 .0) (line .given .0 .1 .0)
+    (args .links .now) stated (args .late) (objection .given .0 .0) (line .given .0 .1 .0)
     (rw (line .given .1 ∙ ap (λ (l : Line). Good l (line .given .0 .1 .0)) (objection .given .1)) at (read .any-line .ensures))
 
-same-length-4 : tie.Need-same-length-4
-same-length-4 c = search needs
+same-length : tie.Need-same-length
+same-length c = search needs
 
-same-length-5 : tie.Need-same-length-5
-same-length-5 c = search needs
+same-length-2 : tie.Need-same-length-2
+same-length-2 c = search needs
 
-same-length-6 : tie.Need-same-length-6
-same-length-6 c = search needs
-
-same-length-7 : tie.Need-same-length-7
-same-length-7 c = search needs
+same-length-3 : tie.Need-same-length-3
+same-length-3 c = search needs
 
 returns-4 : tie.Need-returns-4
 returns-4 c =
@@ -107,12 +83,12 @@ returns-4 c =
     let told = settled .before .before .before .before .before in
     let line = told .before .before .before .line in
     let read = told .before .before .before .before .before in
-    let args = read .before .before .before .before .before .before .args in
-    let pre = read .before .before .before .before .before .before .pre in
+    let args = read .before .before .before .before .before .args in
+    let pre = read .before .before .before .before .before .pre in
     λ ls S lines stated. past-statement (args .text .now) (args .at) ls lines S (args .n) (args .numbers .now) (args .marks .now)
-    (args .links .now) stated (args .late) (args .fates .now) (args .k) (told .line2 .given .0 .0) (line .given .0 .1 .0)
+    (args .links .now) stated (args .late) (told .line2 .given .0 .0) (line .given .0 .1 .0)
     (rw (line .given .1 ∙ ap (λ (l : Line). Good l (line .given .0 .1 .0)) (told .line2 .given .1)) at (read .any-line .ensures))
-    (omega (arith, pre .0 .3)) (omega (arith, pre .0 .4)) (settle .result) _ _ _ (settle .ensures) (c .kept .result)
+    (omega (arith, pre .0 .2)) (omega (arith, pre .0 .3)) (settle .result) _ _ _ (settle .ensures) (c .kept .result)
     (c .before .moved-if .result) (c .kept .ensures) (c .before .moved-if .ensures)
 
 pub pass-statement-spec : {M : Type 1} → statement M
@@ -121,25 +97,17 @@ pass-statement-spec =
     (tie.spec
     any-line-requires
     enum-told
-    slice-write-fates
     enum-known-next
-    slice-write-fates-2
     enum-known-line
     enum-told-2
-    slice-write-fates-3
     enum-known-line-2
     settle-statement-requires
     moved-if-requires
-    slice-write-fates-4
     kept-requires
-    same-length
     returns
-    same-length-2
     returns-2
-    same-length-3
     returns-3
-    same-length-4
-    same-length-5
-    same-length-6
-    same-length-7
+    same-length
+    same-length-2
+    same-length-3
     returns-4)

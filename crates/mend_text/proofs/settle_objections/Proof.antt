@@ -1,14 +1,14 @@
 -- `settle_objections`: the invariant says what is settled of the lines passed, for the lines that the text has.
 use mathlib.Core.List.{List}
-use mathlib.Core.Path.{_≡_, refl, subst, _∙_}
+use mathlib.Core.Path.{_≡_, refl, _∙_}
 use Prim.Native.Nat.{_-_, _≤_}
 use native.Mathlib.Omega.{arith}
 use lib.ListN.{length}
 use Rattle.pair_words.specs.Words.{objectorsIn, targetsIn}
 use Rattle.pair_repeat.specs.Entered.{Entered}
 use Rattle.mend.specs.TextLines.{TextLine}
-use Rattle.mend.proofs.TextLines.{lines-once, few-lines}
-use Rattle.mend_text.specs.Passes.{StatementsSettled, ObjectionsSettled}
+use Rattle.mend.proofs.TextLines.{few-lines}
+use Rattle.mend_text.specs.Passes.{StatementsSettled}
 use Rattle.mend_text.proofs.Loops.{Objecting, fate-room, objecting-first, objecting-next, objecting-last, settled-back}
 use Rattle.mend_text.proofs.settle_objections.Statement.{statement}
 use Rattle.mend_text.proofs.settle_objections.Tie as tie
@@ -124,15 +124,25 @@ same-length-4 c = c .before .before .before .before .before .before .before .bef
 
 returns : tie.Need-returns Inv-loop μ-loop
 returns c =
-    let args = c .before .before .before .before .before .before .before .before .before .before .before .before .before .before .before .before .before .before .before .before .before .args in
-    let loop = c .before .before .before .before .before .before .before .before .loop in
-    let back = c .before .before .before .before .unpack .ensures in
-    λ ls q. settled-back ls (args .n) (loop .m) (args .numbers .now) (loop .marks) (objectorsIn (loop .objectors)) (targetsIn (loop .objectors))
-    (loop .fates) _ _ (subst (λ ms. ObjectionsSettled ms (args .n) (loop .m) (args .numbers .now) (loop .marks)
-    (objectorsIn (loop .objectors)) (targetsIn (loop .objectors)) (loop .fates)) (lines-once (args .text .now) (loop .inv .0 .0) ls
-    ((loop .inv .0 .2) .lines-of) (q .lines-of)) (objecting-last (args .text .now) (loop .inv .0 .0) (loop .at) (args .n) (loop .m)
-    (loop .k) (args .numbers .now) (loop .marks) (objectorsIn (loop .objectors)) (targetsIn (loop .objectors)) (loop .fates) (loop .inv .0 .2)
-    (c .before .before .before .before .before .before .before .loop-test .left))) (back .0) (back .1)
+    let unpacked = c .before .before .before .before in
+    let over = unpacked .before .before .before in
+    let loop = over .before .loop in
+    let begun = over .before .before .before .before in
+    let args = begun .before .before .before .before .before .before .before .before .before .before .args in
+    let (ls, _, v) = loop .inv .0 in
+    let numbers = args .numbers .now in
+    let kept = objectorsIn (loop .objectors) in
+    let against = targetsIn (loop .objectors) in
+    let last = objecting-last (args .text .now) ls (loop .at) (args .n) (loop .m) (loop .k) numbers (loop .marks) kept against
+    (loop .fates) v (over .loop-test .left) in
+    record {
+      ls = ls;
+      lines-of = v .lines-of;
+      counted = last .1;
+      settled =
+          settled-back ls (args .n) (loop .m) numbers (loop .marks) kept against (loop .fates) _ _ (last .0)
+          (unpacked .unpack .ensures .0) (unpacked .unpack .ensures .1);
+    }
 
 pub settle-objections-spec : {M : Type 1} → statement M
 settle-objections-spec =

@@ -1,7 +1,7 @@
 -- `settle_statements`: the invariant says what is settled of the lines passed, and which lines are left.
 use mathlib.Core.List.{List}
 use mathlib.Core.Path.{_≡_, refl, _∙_}
-use Prim.Native.Nat.{_-_}
+use Prim.Native.Nat.{_-_, _<_}
 use native.Mathlib.Omega.{arith}
 use lib.ListN.{length}
 use Rattle.mend.specs.TextLines.{TextLine}
@@ -38,50 +38,72 @@ loop-holds c =
 
 pass-statement-requires : tie.Need-pass-statement-requires Inv-loop μ-loop
 pass-statement-requires c κs =
-    let loop-test = c .before .before .before .before .loop-test in
-    let args = c .before .before .before .before .before .before .before .before .before .before .before .args in
-    let loop = c .before .before .before .before .before .loop in
-    let pre = c .before .before .before .before .before .before .before .before .before .before .before .pre in (
+    let inside = c .before .before .before in
+    let loop = inside .before .loop in
+    let start = inside .before .before .before .before .before .before .before in
+    let v = loop .inv .0 .1 in (
       (
-        loop-test .taken,
-        (omega (arith, fate-room (args .text .now) (loop .inv .0 .0) (loop .at) (loop .k) ((loop .inv .0 .1) .rest) ((loop .inv .0 .1) .lines-of) ((loop .inv .0 .1) .place) (loop-test .taken) (pre .0 .0), loop .inv .4, pre .0 .1 .2)),
-        (loop .inv .0 .1) .stated .indexed .few,
-        omega (arith, loop .inv .1, pre .0 .1 .0),
-        omega (arith, loop .inv .2, pre .0 .1 .1),
+        inside .loop-test .taken,
+        v .stated .indexed .few,
+        omega (arith, loop .inv .1, start .pre .0 .1 .0),
+        omega (arith, loop .inv .2, start .pre .0 .1 .1),
       ),
-      (loop .inv .0 .1) .stated .indexed,
+      v .stated .indexed,
     )
+
+slice-write-fates : tie.Need-slice-write-fates Inv-loop μ-loop
+slice-write-fates c =
+    let passed = c .before .before .before .before .before .before in
+    let inside = passed .before .before .before .before in
+    let loop = inside .before .loop in
+    let start = inside .before .before .before .before .before .before .before in
+    let v = loop .inv .0 .1 in
+    let room = fate-room (start .args .text .now) (loop .inv .0 .0) (loop .at) (loop .k) (v .rest) (v .lines-of) (v .place)
+    (inside .loop-test .taken) (start .pre .0 .0) in
+    omega (arith, room, loop .inv .4, start .pre .0 .1 .2)
 
 add-k : tie.Need-add-k Inv-loop μ-loop
 add-k c =
-    let args = c .before .before .before .before .before .before .before .before .before .before .before .before .before .before .before .before .before .before .before .before .args in
-    let loop = c .before .before .before .before .before .before .before .before .before .before .before .before .before .before .loop in
-    let loop-test = c .before .before .before .before .before .before .before .before .before .before .before .before .before .loop-test in
-    let pre = c .before .before .before .before .before .before .before .before .before .before .before .before .before .before .before .before .before .before .before .before .pre in
-    omega (arith, fate-room (args .text .now) (loop .inv .0 .0) (loop .at) (loop .k) ((loop .inv .0 .1) .rest) ((loop .inv .0 .1) .lines-of) ((loop .inv .0 .1) .place) (loop-test .taken) (pre .0 .0))
+    let passed = c .before .before .before .before .before .before in
+    let inside = passed .before .before .before .before in
+    let loop = inside .before .loop in
+    let start = inside .before .before .before .before .before .before .before in
+    let v = loop .inv .0 .1 in
+    let room = fate-room (start .args .text .now) (loop .inv .0 .0) (loop .at) (loop .k) (v .rest) (v .lines-of) (v .place)
+    (inside .loop-test .taken) (start .pre .0 .0) in
+    omega (arith, room)
 
 loop-less : tie.Need-loop-less Inv-loop μ-loop
 loop-less c =
-    let pass-statement = c .before .before .before .before .before .before .before .before .pass-statement in
-    let loop = c .before .before .before .before .before .before .before .before .before .before .before .before .before .before .loop in
-    omega (arith, (pass-statement .ensures ((loop .inv .0 .1) .rest) ((loop .inv .0 .1) .S) ((loop .inv .0 .1) .place .left) ((loop .inv .0 .1) .stated)) .passed .onward, (pass-statement .ensures ((loop .inv .0 .1) .rest) ((loop .inv .0 .1) .S) ((loop .inv .0 .1) .place .left) ((loop .inv .0 .1) .stated)) .passed .within)
+    let passed = c .before .before .before .before .before .before in
+    let inside = passed .before .before .before .before in
+    let loop = inside .before .loop in
+    let v = loop .inv .0 .1 in
+    let pass = passed .pass-statement in
+    let one = pass .ensures (v .rest) (v .S) (v .place .left) (v .stated) in
+    omega (arith, one .passed .onward, one .passed .within)
 
 loop-again : tie.Need-loop-again Inv-loop μ-loop
 loop-again c =
-    let loop = c .before .before .before .before .before .before .before .before .before .before .before .before .before .before .loop in
-    let args = c .before .before .before .before .before .before .before .before .before .before .before .before .before .before .before .before .before .before .before .before .args in
-    let loop-test = c .before .before .before .before .before .before .before .before .before .before .before .before .before .loop-test in
-    let pre = c .before .before .before .before .before .before .before .before .before .before .before .before .before .before .before .before .before .before .before .before .pre in
-    let pass-statement = c .before .before .before .before .before .before .before .before .pass-statement in (
+    let passed = c .before .before .before .before .before .before in
+    let inside = passed .before .before .before .before in
+    let loop = inside .before .loop in
+    let start = inside .before .before .before .before .before .before .before in
+    let v = loop .inv .0 .1 in
+    let room = fate-room (start .args .text .now) (loop .inv .0 .0) (loop .at) (loop .k) (v .rest) (v .lines-of) (v .place)
+    (inside .loop-test .taken) (start .pre .0 .0) in
+    let pass = passed .pass-statement in
+    let one = pass .ensures (v .rest) (v .S) (v .place .left) (v .stated) in
+    let within : loop .k < length (loop .fates) = omega (arith, room, loop .inv .4, start .pre .0 .1 .2) in (
       (
-        (loop .inv .0 .0),
-        stating-next (args .text .now) (loop .inv .0 .0) (loop .at) (loop .n) (loop .k) (loop .late) (loop .numbers) (loop .marks)
-            (loop .links) (loop .fates) (loop .inv .0 .1) (omega (arith, fate-room (args .text .now) (loop .inv .0 .0) (loop .at) (loop .k) ((loop .inv .0 .1) .rest) ((loop .inv .0 .1) .lines-of) ((loop .inv .0 .1) .place) (loop-test .taken) (pre .0 .0), loop .inv .4, pre .0 .1 .2)) (pass-statement .result) _ _ _ _ (pass-statement .ensures ((loop .inv .0 .1) .rest) ((loop .inv .0 .1) .S) ((loop .inv .0 .1) .place .left) ((loop .inv .0 .1) .stated)),
+        loop .inv .0 .0,
+        stating-next (start .args .text .now) (loop .inv .0 .0) (loop .at) (loop .n) (loop .k) (loop .late) (loop .numbers)
+            (loop .marks) (loop .links) (loop .fates) v within (pass .result) _ _ _ one,
       ),
-      pass-statement .kept .1 .1 .0 ∙ loop .inv .1,
-      pass-statement .kept .1 .1 .1 .0 ∙ loop .inv .2,
-      pass-statement .kept .1 .1 .1 .1 .0 ∙ loop .inv .3,
-      pass-statement .kept .1 .1 .1 .1 .1 .0 ∙ loop .inv .4,
+      pass .kept .1 .1 .0 ∙ loop .inv .1,
+      pass .kept .1 .1 .1 .0 ∙ loop .inv .2,
+      pass .kept .1 .1 .1 .1 .0 ∙ loop .inv .3,
+      search needs,
     )
 
 same-length : tie.Need-same-length Inv-loop μ-loop
@@ -103,13 +125,10 @@ same-length-4 c =
 returns : tie.Need-returns Inv-loop μ-loop
 returns c =
     let loop = c .before .loop in
-    let args = c .before .before .before .before .before .before .before .args in
-    let loop-test = c .loop-test in (
-      (loop .inv .0 .0),
+    let args = c .before .before .before .before .before .before .before .args in (
+      loop .inv .0 .0,
       stating-last (args .text .now) (loop .inv .0 .0) (loop .at) (loop .n) (loop .k) (loop .late) (loop .numbers) (loop .marks)
-          (loop .links) (loop .fates) (loop .inv .0 .1) (loop-test .left) .0,
-      stating-last (args .text .now) (loop .inv .0 .0) (loop .at) (loop .n) (loop .k) (loop .late) (loop .numbers) (loop .marks)
-          (loop .links) (loop .fates) (loop .inv .0 .1) (loop-test .left) .1,
+          (loop .links) (loop .fates) (loop .inv .0 .1) (c .loop-test .left),
     )
 
 pub settle-statements-spec : {M : Type 1} → statement M
@@ -120,6 +139,7 @@ settle-statements-spec =
     μ-loop
     loop-holds
     pass-statement-requires
+    slice-write-fates
     add-k
     loop-less
     loop-again

@@ -50,15 +50,7 @@ same-length-5 : tie.Need-same-length-5
 same-length-5 c = search needs
 
 returns : tie.Need-returns
-returns c =
-    let settle-statements = c .before .before .before .before .before .before .before .before .before .before .before .before .before .before .before .before .before .before .before .before .before .before .settle-statements in
-    let settle-objections = c .before .before .before .before .before .before .before .before .settle-objections in
-    record {
-      ls = settle-statements .ensures .0;
-      lines-of = settle-statements .ensures .1 .lines-of;
-      counted = settle-statements .ensures .2;
-      settled = settle-objections .ensures (settle-statements .ensures .0) (settle-statements .ensures .1);
-    }
+returns c = c .before .before .before .before .before .before .before .before .settle-objections .ensures
 
 pub settle-text-spec : {M : Type 1} → statement M
 settle-text-spec =

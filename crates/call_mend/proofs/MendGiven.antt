@@ -65,7 +65,8 @@ module _ (ls : List TextLine) (nums marks objectors targets fates-list : List �
       report-size-is : report-size ≡ length (reportOf (fates ls))
       report-size-is = report-is ∙ ap (λ fs. length (reportOf fs)) (m .fates-are)
 
-      pub report-room-short : length report < report-size → MendWritten ls (room, report, found) (Refused Room) (room, report, found)
+      pub report-room-short : length report < report-size → MendWritten ls (room, report, found) (Refused Room)
+          (room, report, found)
       report-room-short h = ((inr (omega (arith, report-size-is)), refl), refl)
 
       pub both-written : size ≤ length room → report-size ≤ length report → (room′ report′ : List ℕ)

@@ -37,7 +37,8 @@ module _ (s : List ℕ) (at end : ℕ) (next : NextEnd s at end) where
 
       unbroken : Unbroken w
       unbroken i h e =
-          let h′ : i < end - at = omega (arith, length-take-le (end - at) (drop at s) (omega (arith, length-drop at s, next .from))) in
+          let h′ : i < end - at = omega
+          (arith, length-take-le (end - at) (drop at s) (omega (arith, length-drop at s, next .from))) in
           next .none (at + i) (omega arith) (omega (arith, next .from))
           (sym (getD-take (end - at) (drop at s) i 0 h′ ∙ getD-drop at s i 0) ∙ e)
 

@@ -38,12 +38,14 @@ pub record Place (s : List ℕ) (ls : List TextLine) (at k : ℕ) (rest : List T
 pub place-first : (s : List ℕ) (ls : List TextLine) → LinesOf s ls → Place s ls 0 0 ls
 place-first s ls p = record { within = omega arith; left = p; counted = omega arith }
 
-place-next : (s : List ℕ) (ls : List TextLine) (at k : ℕ) (rest : List TextLine) (next : ℕ) (line : TextLine) → Place s ls at k rest
+place-next : (s : List ℕ) (ls : List TextLine) (at k : ℕ) (rest : List TextLine) (next : ℕ) (line : TextLine) → Place s ls at k
+    rest
     → (q : Passed s at rest next line) → Place s ls next (k + 1) (q .more)
 place-next s ls at k rest next line p q =
     record { within = q .within; left = q .left; counted = omega (arith, p .counted, ap length (q .first)) }
 
-place-last : (s : List ℕ) (ls : List TextLine) (at k : ℕ) (rest : List TextLine) → Place s ls at k rest → length s ≤ at → rest ≡ []
+place-last : (s : List ℕ) (ls : List TextLine) (at k : ℕ) (rest : List TextLine) → Place s ls at k rest → length s ≤ at → rest ≡
+    []
 place-last s ls at k rest p h = none-first (drop at s) rest (omega (arith, length-drop at s)) (p .left)
 
 -- before the end there is a line, so its fate has room
@@ -75,7 +77,15 @@ stating-first s ls nums marks links fates p i = record {
   S = [];
   stated = record {
     holds =
-        record { statements = refl; objections = refl; numbers-are = refl; marks-are = refl; objectors-are = refl; targets-are = refl };
+        record {
+          statements = refl;
+          objections = refl;
+          numbers-are = refl;
+          marks-are = refl;
+          objectors-are = refl;
+          targets-are
+              = refl;
+        };
     valid = empty-valid;
     indexed = i;
   };
@@ -122,18 +132,19 @@ stating-last s ls at n k late nums marks links fates v h =
     }
 
 -- While objections are settled.
-pub record Objecting (s : List ℕ) (ls : List TextLine) (at n m k : ℕ) (nums marks objectors targets fates-room : List ℕ) : Type 0 where
-  pub lines-of : LinesOf s ls
-  pub rest : List TextLine
-  pub place : Place s ls at k rest
-  pub S : List StatementLine
-  pub late : Bool
-  pub R : Register
-  pub valid : Valid R
-  pub holds : Holds R n m nums marks objectors targets
-  pub kept : mended ls ≡ withObjections R rest
-  pub fates-are : fates ls ≡ take k fates-room ++ fatesFrom S late R rest
-  pub ahead : take (length ls) fates-room ≡ take k fates-room ++ firstFates S late rest
+pub record Objecting (s : List ℕ) (ls : List TextLine) (at n m k : ℕ) (nums marks objectors targets fates-room : List ℕ) : Type 0
+  where
+    pub lines-of : LinesOf s ls
+    pub rest : List TextLine
+    pub place : Place s ls at k rest
+    pub S : List StatementLine
+    pub late : Bool
+    pub R : Register
+    pub valid : Valid R
+    pub holds : Holds R n m nums marks objectors targets
+    pub kept : mended ls ≡ withObjections R rest
+    pub fates-are : fates ls ≡ take k fates-room ++ fatesFrom S late R rest
+    pub ahead : take (length ls) fates-room ≡ take k fates-room ++ firstFates S late rest
 
 pub objecting-first : (s : List ℕ) (ls : List TextLine) (n : ℕ) (nums marks links objectors targets fates-room : List ℕ)
     → StatementsSettled s ls n nums marks links fates-room → Objecting s ls 0 n 0 0 nums marks objectors targets fates-room
@@ -158,14 +169,16 @@ objecting-first s ls n nums marks links objectors targets fates-room q = record 
   ahead = q .fates-are;
 }
 
-both-fates : (S : List StatementLine) (late : Bool) (R : Register) (l : TextLine) → laterFate R l (firstFate S late l) ≡ fateOf S late R l
+both-fates : (S : List StatementLine) (late : Bool) (R : Register) (l : TextLine) → laterFate R l (firstFate S late l) ≡ fateOf S
+    late R l
 both-fates S late R (good (Statement st)) = refl
 both-fates S late R (good (Objection o)) = refl
 both-fates S late R spoiled = refl
 both-fates S late R unended = refl
 
 pub objecting-next : (s : List ℕ) (ls : List TextLine) (at n m k : ℕ) (nums marks objectors targets fates-room : List ℕ)
-    → (v : Objecting s ls at n m k nums marks objectors targets fates-room) → k < length fates-room → length ls ≤ length fates-room
+    → (v : Objecting s ls at n m k nums marks objectors targets fates-room) → k < length fates-room → length ls ≤ length
+    fates-room
     → (r : ObjectionPass) (marks′ objectors′ targets′ fates′ : List ℕ)
     → ObjectionPassed s at (v .rest) (v .R) n fates-room k r nums marks′ objectors′ targets′ fates′
     → Objecting s ls (r .next) n (r .objections) (k + 1) nums marks′ objectors′ targets′ fates′
@@ -216,7 +229,8 @@ objecting-next s ls at n m k nums marks objectors targets room v h few r marks�
         ∙ getD-at (take k room) (firstFate (v .S) (v .late) line) waiting 0 k (length-take-le k room (omega arith))
 
     put : fates′ ≡ set room k fate
-    put = q .fates-are ∙ ap (λ f. set room k (laterFate (v .R) line f)) was ∙ ap (set room k) (both-fates (v .S) (v .late) (v .R) line)
+    put = q .fates-are ∙ ap (λ f. set room k (laterFate (v .R) line f)) was ∙ ap (set room k)
+        (both-fates (v .S) (v .late) (v .R) line)
 
 pub objecting-last : (s : List ℕ) (ls : List TextLine) (at n m k : ℕ) (nums marks objectors targets fates-room : List ℕ)
     → Objecting s ls at n m k nums marks objectors targets fates-room → length s ≤ at

@@ -86,8 +86,10 @@ module _ (s : List ℕ) (at : ℕ) (ls : List TextLine) (lines : LinesOf (drop a
 
   pub over-objection : (o : ObjectionLine) (next : ℕ) → AnyLineAt s at (Good (Objection o) next) → n ≤ length marks
       → 4096 ≤ length objectors → 4096 ≤ length targets → (f : ℕ) (marks′ objectors′ targets′ : List ℕ)
-      → ObjectionSettled nums marks objectors targets n m o f marks′ objectors′ targets′ → (m′ : ℕ) → m′ ≡ cond (eqb f 0) (m + 1) m
-      → ObjectionPassed s at ls R n fates k (record { next = next; objections = m′ }) nums marks′ objectors′ targets′ (set fates k f)
+      → ObjectionSettled nums marks objectors targets n m o f marks′ objectors′ targets′ → (m′ : ℕ) → m′ ≡ cond (eqb f 0) (m + 1)
+      m
+      → ObjectionPassed s at ls R n fates k (record { next = next; objections = m′ }) nums marks′ objectors′ targets′
+      (set fates k f)
   over-objection o next g a b c f marks′ objectors′ targets′ settled m′ counted =
       let (e, v, held) = objection-held R n m nums marks objectors targets h valid o a b c f marks′ objectors′ targets′ settled in
       record {

@@ -44,7 +44,8 @@ returns c =
     let pre = read .before .before .before .before .before .before .before .before .pre in (
       (
           λ ls R lines valid holds. over-unended (args .text .now) (args .at) ls lines R (args .n) (args .m) (args .numbers .now)
-          (args .marks .now) (objectorsIn (args .objectors .now)) (targetsIn (args .objectors .now)) holds valid (args .fates .now) (args .k) (pre .0 .0)
+          (args .marks .now) (objectorsIn (args .objectors .now)) (targetsIn (args .objectors .now)) holds valid
+          (args .fates .now) (args .k) (pre .0 .0)
           (rw (c .enum-told .given .1) at (read .any-line .ensures))
           ),
       pre .1 .2,
@@ -52,29 +53,34 @@ returns c =
 
 returns-2 : tie.Need-returns-2
 returns-2 c =
+    let back = c .before .before .before .before .before .before .before .before in
     let next = c .before .next in
     let read = c .before .before .before in
     let args = read .before .before .before .before .before .before .before .before .args in (
       (
           λ ls R lines valid holds. over-spoiled (args .text .now) (args .at) ls lines R (args .n) (args .m) (args .numbers .now)
-          (args .marks .now) (objectorsIn (args .objectors .now)) (targetsIn (args .objectors .now)) holds valid (args .fates .now) (args .k) (next .given .0 .0)
+          (args .marks .now) (objectorsIn (args .objectors .now)) (targetsIn (args .objectors .now)) holds valid
+          (args .fates .now) (args .k) (next .given .0 .0)
           (rw (next .given .1) at (read .any-line .ensures))
           ),
-      c .before .before .before .before .before .before .before .before .before .before .before .pre .1 .2,
+      back .before .before .before .pre .1 .2,
     )
 
 returns-3 : tie.Need-returns-3
 returns-3 c =
+    let back = c .before .before .before .before .before .before .before .before in
     let told = c .enum-told2 in
     let line = c .before .before .before .line in
     let read = c .before .before .before .before .before in
     let args = read .before .before .before .before .before .before .before .before .args in (
       (
-          λ ls R lines valid holds. over-statement (args .text .now) (args .at) ls lines R (args .n) (args .m) (args .numbers .now)
-          (args .marks .now) (objectorsIn (args .objectors .now)) (targetsIn (args .objectors .now)) holds valid (args .fates .now) (args .k) (told .given .0 .0) (line .given .0 .1 .0)
+          λ ls R lines valid holds. over-statement (args .text .now) (args .at) ls lines R (args .n) (args .m)
+          (args .numbers .now)
+          (args .marks .now) (objectorsIn (args .objectors .now)) (targetsIn (args .objectors .now)) holds valid
+          (args .fates .now) (args .k) (told .given .0 .0) (line .given .0 .1 .0)
           (rw (line .given .1 ∙ ap (λ (l : Line). Good l (line .given .0 .1 .0)) (told .given .1)) at (read .any-line .ensures))
           ),
-      c .before .before .before .before .before .before .before .before .before .before .before .before .before .pre .1 .2,
+      back .before .before .before .before .before .pre .1 .2,
     )
 
 same-length : tie.Need-same-length
@@ -99,11 +105,15 @@ returns-4 c =
     let args = read .before .before .before .before .before .before .before .before .args in
     let pre = read .before .before .before .before .before .before .before .before .pre in (
       (
-          λ ls R lines valid holds. over-objection (args .text .now) (args .at) ls lines R (args .n) (args .m) (args .numbers .now)
-          (args .marks .now) (objectorsIn (args .objectors .now)) (targetsIn (args .objectors .now)) holds valid (args .fates .now) (args .k) (told .line2 .given .0 .0) (line .given .0 .1 .0)
-          (rw (line .given .1 ∙ ap (λ (l : Line). Good l (line .given .0 .1 .0)) (told .line2 .given .1)) at (read .any-line .ensures))
+          λ ls R lines valid holds. over-objection (args .text .now) (args .at) ls lines R (args .n) (args .m)
+          (args .numbers .now)
+          (args .marks .now) (objectorsIn (args .objectors .now)) (targetsIn (args .objectors .now)) holds valid
+          (args .fates .now) (args .k) (told .line2 .given .0 .0) (line .given .0 .1 .0)
+          (rw (line .given .1 ∙ ap (λ (l : Line). Good l (line .given .0 .1 .0)) (told .line2 .given .1)) at
+          (read .any-line .ensures))
           (omega (arith, pre .0 .2, pre .0 .4)) (omega (arith, pre .1 .0 .0, objectors-length (args .objectors .now)))
-          (omega (arith, pre .1 .0 .0, targets-length (args .objectors .now))) (settle .result) _ _ _ (settle .ensures .0) (c .kept .result)
+          (omega (arith, pre .1 .0 .0, targets-length (args .objectors .now))) (settle .result) _ _ _ (settle .ensures .0)
+          (c .kept .result)
           (c .kept .ensures)
           ),
       rw (c .kept .ensures) (settle .ensures .1),

@@ -16,7 +16,8 @@ use Rattle.mend_text.proofs.settle_objections.Tie as tie
 abbrev Inv-loop : tie.InvT-loop
 Inv-loop text numbers marks₀ links objectors₀ targets₀ fates₀ n at₀ m₀ k₀ marks objectors targets fates at m k =
     ((ls : List TextLine) × StatementsSettled text ls n numbers marks₀ links fates₀
-    × Objecting text ls at n m k numbers marks (objectorsIn objectors) (targetsIn objectors) fates) × (length marks ≡ length marks₀)
+    × Objecting text ls at n m k numbers marks (objectorsIn objectors) (targetsIn objectors) fates) ×
+    (length marks ≡ length marks₀)
     × (length objectors ≡ length objectors₀) × (length targets ≡ length targets₀) × (length fates ≡ length fates₀)
     × Entered n m objectors targets
 
@@ -50,48 +51,93 @@ loop-holds c =
 
 pass-objection-requires : tie.Need-pass-objection-requires Inv-loop μ-loop
 pass-objection-requires c κs =
+    let back = c .before .before .before .before .before .before .before .before in
+    let far = back .before .before .before .before .before .before .before .before in
     let loop-test = c .before .before .before .before .loop-test in
-    let args = c .before .before .before .before .before .before .before .before .before .before .before .before .before .before .before .before .before .before .args in
+    let args = far .before .before .args in
     let loop = c .before .before .before .before .before .loop in
-    let pre = c .before .before .before .before .before .before .before .before .before .before .before .before .before .before .before .before .before .before .pre in (
+    let pre = far .before .before .pre in (
       (
         loop-test .taken,
-        (omega (arith, fate-room (args .text .now) (loop .inv .0 .0) (loop .at) (loop .k) ((loop .inv .0 .2) .rest) ((loop .inv .0 .2) .lines-of) ((loop .inv .0 .2) .place) (loop-test .taken) (pre .0 .0), loop .inv .4, pre .0 .1 .2)),
+        (omega (
+          arith,
+          fate-room (args .text .now) (loop .inv .0 .0) (loop .at) (loop .k) ((loop .inv .0 .2) .rest)
+              ((loop .inv .0 .2) .lines-of) ((loop .inv .0 .2) .place) (loop-test .taken) (pre .0 .0),
+          loop .inv .4,
+          pre .0 .1 .2,
+        )),
         (loop .inv .0 .1) .stated .indexed .few,
         omega (arith, (loop .inv .0 .2) .valid .few-objections, (loop .inv .0 .2) .holds .objections),
         omega (arith, loop .inv .1, pre .0 .1 .1),
       ),
-      ((omega (arith, loop .inv .2, pre .0 .2 .0), omega (arith, loop .inv .3, pre .0 .2 .1)), (loop .inv .0 .1) .stated .indexed, loop .inv .5),
+      (
+        (omega (arith, loop .inv .2, pre .0 .2 .0), omega (arith, loop .inv .3, pre .0 .2 .1)),
+        (loop .inv .0 .1) .stated .indexed,
+        loop .inv .5,
+      ),
     )
 
 add-k : tie.Need-add-k Inv-loop μ-loop
 add-k c =
-    let args = c .before .before .before .before .before .before .before .before .before .before .before .before .before .before .before .before .before .before .before .before .before .before .before .before .before .before .before .args in
-    let loop = c .before .before .before .before .before .before .before .before .before .before .before .before .before .before .loop in
-    let loop-test = c .before .before .before .before .before .before .before .before .before .before .before .before .before .loop-test in
-    let pre = c .before .before .before .before .before .before .before .before .before .before .before .before .before .before .before .before .before .before .before .before .before .before .before .before .before .before .before .pre in
-    omega (arith, fate-room (args .text .now) (loop .inv .0 .0) (loop .at) (loop .k) ((loop .inv .0 .2) .rest) ((loop .inv .0 .2) .lines-of) ((loop .inv .0 .2) .place) (loop-test .taken) (pre .0 .0))
+    let back = c .before .before .before .before .before .before .before .before in
+    let far = back .before .before .before .before .before .before .before .before in
+    let further = far .before .before .before .before .before .before .before .before in
+    let args = further .before .before .before .args in
+    let loop = back .before .before .before .before .before .before .loop in
+    let loop-test = back .before .before .before .before .before .loop-test in
+    let pre = further .before .before .before .pre in
+    omega (
+      arith,
+      fate-room (args .text .now) (loop .inv .0 .0) (loop .at) (loop .k) ((loop .inv .0 .2) .rest)
+          ((loop .inv .0 .2) .lines-of) ((loop .inv .0 .2) .place) (loop-test .taken) (pre .0 .0),
+    )
 
 loop-less : tie.Need-loop-less Inv-loop μ-loop
 loop-less c =
-    let pass-objection = c .before .before .before .before .before .before .before .before .pass-objection in
-    let loop = c .before .before .before .before .before .before .before .before .before .before .before .before .before .before .loop in
-    omega (arith, (pass-objection .ensures .0 ((loop .inv .0 .2) .rest) ((loop .inv .0 .2) .R) ((loop .inv .0 .2) .place .left) ((loop .inv .0 .2) .valid) ((loop .inv .0 .2) .holds)) .passed .onward, (pass-objection .ensures .0 ((loop .inv .0 .2) .rest) ((loop .inv .0 .2) .R) ((loop .inv .0 .2) .place .left) ((loop .inv .0 .2) .valid) ((loop .inv .0 .2) .holds)) .passed .within)
+    let back = c .before .before .before .before .before .before .before .before in
+    let pass-objection = back .pass-objection in
+    let loop = back .before .before .before .before .before .before .loop in
+    omega (
+      arith,
+      (pass-objection .ensures .0 ((loop .inv .0 .2) .rest) ((loop .inv .0 .2) .R) ((loop .inv .0 .2) .place .left)
+          ((loop .inv .0 .2) .valid) ((loop .inv .0 .2) .holds)) .passed .onward,
+      (pass-objection .ensures .0 ((loop .inv .0 .2) .rest) ((loop .inv .0 .2) .R) ((loop .inv .0 .2) .place .left)
+          ((loop .inv .0 .2) .valid) ((loop .inv .0 .2) .holds)) .passed .within,
+    )
 
 loop-again : tie.Need-loop-again Inv-loop μ-loop
 loop-again c =
-    let loop = c .before .before .before .before .before .before .before .before .before .before .before .before .before .before .loop in
-    let args = c .before .before .before .before .before .before .before .before .before .before .before .before .before .before .before .before .before .before .before .before .before .before .before .before .before .before .before .args in
-    let loop-test = c .before .before .before .before .before .before .before .before .before .before .before .before .before .loop-test in
-    let pre = c .before .before .before .before .before .before .before .before .before .before .before .before .before .before .before .before .before .before .before .before .before .before .before .before .before .before .before .pre in
-    let pass-objection = c .before .before .before .before .before .before .before .before .pass-objection in (
+    let back = c .before .before .before .before .before .before .before .before in
+    let far = back .before .before .before .before .before .before .before .before in
+    let further = far .before .before .before .before .before .before .before .before in
+    let loop = back .before .before .before .before .before .before .loop in
+    let args = further .before .before .before .args in
+    let loop-test = back .before .before .before .before .before .loop-test in
+    let pre = further .before .before .before .pre in
+    let pass-objection = back .pass-objection in (
       (
         (loop .inv .0 .0),
         (loop .inv .0 .1),
-        objecting-next (args .text .now) (loop .inv .0 .0) (loop .at) (args .n) (loop .m) (loop .k) (args .numbers .now) (loop .marks)
-            (objectorsIn (loop .objectors)) (targetsIn (loop .objectors)) (loop .fates) (loop .inv .0 .2) (omega (arith, fate-room (args .text .now) (loop .inv .0 .0) (loop .at) (loop .k) ((loop .inv .0 .2) .rest) ((loop .inv .0 .2) .lines-of) ((loop .inv .0 .2) .place) (loop-test .taken) (pre .0 .0), loop .inv .4, pre .0 .1 .2))
-            (omega (arith, few-lines (args .text .now) (loop .inv .0 .0) ((loop .inv .0 .2) .lines-of), pre .0 .0, loop .inv .4, pre .0 .1 .2))
-            (pass-objection .result) _ _ _ _ (pass-objection .ensures .0 ((loop .inv .0 .2) .rest) ((loop .inv .0 .2) .R) ((loop .inv .0 .2) .place .left) ((loop .inv .0 .2) .valid) ((loop .inv .0 .2) .holds)),
+        objecting-next (args .text .now) (loop .inv .0 .0) (loop .at) (args .n) (loop .m) (loop .k) (args .numbers .now)
+            (loop .marks)
+            (objectorsIn (loop .objectors)) (targetsIn (loop .objectors)) (loop .fates) (loop .inv .0 .2)
+            (omega (
+              arith,
+              fate-room (args .text .now) (loop .inv .0 .0) (loop .at) (loop .k) ((loop .inv .0 .2) .rest)
+                  ((loop .inv .0 .2) .lines-of) ((loop .inv .0 .2) .place) (loop-test .taken) (pre .0 .0),
+              loop .inv .4,
+              pre .0 .1 .2,
+            ))
+            (omega (
+              arith,
+              few-lines (args .text .now) (loop .inv .0 .0) ((loop .inv .0 .2) .lines-of),
+              pre .0 .0,
+              loop .inv .4,
+              pre .0 .1 .2,
+            ))
+            (pass-objection .result) _ _ _ _
+            (pass-objection .ensures .0 ((loop .inv .0 .2) .rest) ((loop .inv .0 .2) .R) ((loop .inv .0 .2) .place .left)
+            ((loop .inv .0 .2) .valid) ((loop .inv .0 .2) .holds)),
       ),
       pass-objection .kept .1 .1 .1 .0 ∙ loop .inv .1,
       pass-objection .kept .1 .1 .1 .1 .1 .0 ∙ loop .inv .2,
@@ -102,7 +148,9 @@ loop-again c =
 
 unpack-requires : tie.Need-unpack-requires Inv-loop μ-loop
 unpack-requires c κs =
-    let pre = c .before .before .before .before .before .before .before .before .before .before .before .before .before .before .before .before .pre in
+    let back = c .before .before .before .before .before .before .before .before in
+    let far = back .before .before .before .before .before .before .before .before in
+    let pre = far .pre in
     let loop = c .before .before .before .loop in
     let few : loop .m ≤ 4096 = omega (arith, (loop .inv .0 .2) .valid .few-objections, (loop .inv .0 .2) .holds .objections) in
     (omega (arith, few, loop .inv .2, pre .0 .2 .0), omega (arith, few, loop .inv .3, pre .0 .2 .1))

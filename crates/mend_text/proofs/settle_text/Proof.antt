@@ -20,8 +20,11 @@ slice-aggregate-settle-objections c = search needs
 
 settle-objections-requires : tie.Need-settle-objections-requires
 settle-objections-requires c κs =
-    let pre = c .before .before .before .before .before .before .before .before .before .before .before .before .before .before .before .before .before .before .before .before .before .before .before .before .pre in
-    let settle-statements = c .before .before .before .before .before .before .before .before .before .before .before .before .before .settle-statements in (
+    let back = c .before .before .before .before .before .before .before .before in
+    let far = back .before .before .before .before .before .before .before .before in
+    let further = far .before .before .before .before .before .before .before .before in
+    let pre = further .pre in
+    let settle-statements = back .before .before .before .before .before .settle-statements in (
       (
         pre .0,
         (

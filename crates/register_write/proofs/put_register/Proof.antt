@@ -36,10 +36,12 @@ same-length c = search needs
 
 returns : tie.Need-returns
 returns c =
-    let start = c .before .before .before .before .before .before .before .before .before .before .before .before .before in
+    let back = c .before .before .before .before .before .before .before .before in
+    let start = back .before .before .before .before .before in
     let args = start .args in
     copied-put (args .numbers .now) (args .objectors .now) (args .targets .now) (args .marks .now) (args .room .now)
-    (start .pre .1 .1) (c .before .before .before .before .before .before .put-statements .ensures) (c .before .before .put-objections .ensures)
+    (start .pre .1 .1) (c .before .before .before .before .before .before .put-statements .ensures)
+    (c .before .before .put-objections .ensures)
 
 pub put-register-spec : {M : Type 1} → statement M
 put-register-spec =

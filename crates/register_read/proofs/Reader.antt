@@ -102,7 +102,7 @@ module _ (s : List ℕ) (at n m : ℕ) (nums marks objectors targets : List ℕ)
       begun = (got .0, (drop next s, got .3))
 
       pub statement-fault : (r : TextFault) (nums′ marks′ : List ℕ)
-          → StatementTaken nums marks n m st (n + m + 1) nums′ marks′ (AtFault r) → Refuses s r
+          → StatementTaken nums marks n m st nums′ marks′ (AtFault r) → Refuses s r
       statement-fault r nums′ marks′ (inl (l, e)) =
           subst (Refuses s) (sym e) (reached _ (st, begun, omega (arith, v .holds .objections)))
       statement-fault r nums′ marks′ (inr (inl (z, l, e))) =
@@ -123,7 +123,7 @@ module _ (s : List ℕ) (at n m : ℕ) (nums marks objectors targets : List ℕ)
       begun′ = (got .0, (drop next s, got .3))
 
       pub objection-fault : (r : TextFault) (objectors′ targets′ : List ℕ)
-          → ObjectionTaken nums objectors targets n m o (n + m + 1) objectors′ targets′ (AtFault r) → Refuses s r
+          → ObjectionTaken nums objectors targets n m o objectors′ targets′ (AtFault r) → Refuses s r
       objection-fault r objectors′ targets′ (inl (l, e)) =
           subst (Refuses s) (sym e) (reached _ (o, begun′, omega (arith, v .holds .objections)))
       objection-fault r objectors′ targets′ (inr (inl (l, absent, e))) =
@@ -153,7 +153,7 @@ module _ (s : List ℕ) (at n m : ℕ) (nums marks objectors targets : List ℕ)
       ∙ ap (λ u. u ++ drop next s) (sym e)
 
   pub statement-kept : (st : StatementLine) (next : ℕ) (nums′ marks′ : List ℕ) → 1024 ≤ length nums → 1024 ≤ length marks
-      → GotAt s at (Good (Statement st) next) → StatementTaken nums marks n m st (n + m + 1) nums′ marks′ Kept
+      → GotAt s at (Good (Statement st) next) → StatementTaken nums marks n m st nums′ marks′ Kept
       → Inv s next (n + 1) m nums′ marks′ objectors targets
   statement-kept st next nums′ marks′ a b got (z, l, absent, p, q) =
       let S : List StatementLine = v .register .statements in
@@ -179,7 +179,7 @@ module _ (s : List ℕ) (at n m : ℕ) (nums marks objectors targets : List ℕ)
 
   pub objection-kept : (o : ObjectionLine) (next : ℕ) (objectors′ targets′ : List ℕ) → 4096 ≤ length objectors
       → 4096 ≤ length targets → GotAt s at (Good (Objection o) next)
-      → ObjectionTaken nums objectors targets n m o (n + m + 1) objectors′ targets′ Kept
+      → ObjectionTaken nums objectors targets n m o objectors′ targets′ Kept
       → Inv s next n (m + 1) nums marks objectors′ targets′
   objection-kept o next objectors′ targets′ a b got (l, y, x, ends, none, p, q) =
       let R : Register = v .register in

@@ -54,14 +54,14 @@ Absent l n v = (i : ℕ) → i < n → getD l i 0 ≡ v → ⊥
 abbrev pub At : List ℕ → ℕ → ℕ → ℕ → Type 0
 At l n v i = (i < n) × (getD l i 0 ≡ v)
 
-abbrev pub StatementTaken : (nums marks : List ℕ) (n m : ℕ) → StatementLine → ℕ → (nums′ marks′ : List ℕ) → Taken → Type 0
-StatementTaken nums marks n m st k nums′ marks′ Kept =
+abbrev pub StatementTaken : (nums marks : List ℕ) (n m : ℕ) → StatementLine → (nums′ marks′ : List ℕ) → Taken → Type 0
+StatementTaken nums marks n m st nums′ marks′ Kept =
     (m ≡ 0) × (n < 1024) × Absent nums n (st .number) × (nums′ ≡ set nums n (st .number))
     × (marks′ ≡ set marks n (markNumber (st .mark)))
-StatementTaken nums marks n m st k nums′ marks′ (AtFault r) =
-    ((0 < m) × (r ≡ Late k))
-    ⊎ (((m ≡ 0) × (1024 ≤ n) × (r ≡ Statements k))
-    ⊎ ((m ≡ 0) × (n < 1024) × ((i : ℕ) × At nums n (st .number) i) × (r ≡ Issued k)))
+StatementTaken nums marks n m st nums′ marks′ (AtFault r) =
+    ((0 < m) × (r ≡ Late (n + m + 1)))
+    ⊎ (((m ≡ 0) × (1024 ≤ n) × (r ≡ Statements (n + m + 1)))
+    ⊎ ((m ≡ 0) × (n < 1024) × ((i : ℕ) × At nums n (st .number) i) × (r ≡ Issued (n + m + 1))))
 
 -- the index is that of the statements kept
 abbrev pub InStep : (nums : List ℕ) (n : ℕ) (links : List ℕ) → Taken → Type 0
@@ -75,15 +75,15 @@ pub record EndPlaces (nums : List ℕ) (n : ℕ) (o : ObjectionLine) (y x : ℕ)
   pub target : At nums n (o .target) x
   pub target-first : Absent nums x (o .target)
 
-abbrev pub ObjectionTaken : (nums objectors targets : List ℕ) (n m : ℕ) → ObjectionLine → ℕ
+abbrev pub ObjectionTaken : (nums objectors targets : List ℕ) (n m : ℕ) → ObjectionLine
     → (objectors′ targets′ : List ℕ) → Taken → Type 0
-ObjectionTaken nums objectors targets n m o k objectors′ targets′ Kept =
+ObjectionTaken nums objectors targets n m o objectors′ targets′ Kept =
     (m < 4096) × (y : ℕ) × (x : ℕ) × EndPlaces nums n o y x × ((j : ℕ) → j < m → getD objectors j 0 ≡ y → getD targets j 0 ≡ x
     → ⊥)
     × (objectors′ ≡ set objectors m y) × (targets′ ≡ set targets m x)
-ObjectionTaken nums objectors targets n m o k objectors′ targets′ (AtFault r) =
-    ((4096 ≤ m) × (r ≡ Objections k))
-    ⊎ (((m < 4096) × (Absent nums n (o .objector) ⊎ Absent nums n (o .target)) × (r ≡ Unknown k))
+ObjectionTaken nums objectors targets n m o objectors′ targets′ (AtFault r) =
+    ((4096 ≤ m) × (r ≡ Objections (n + m + 1)))
+    ⊎ (((m < 4096) × (Absent nums n (o .objector) ⊎ Absent nums n (o .target)) × (r ≡ Unknown (n + m + 1)))
     ⊎ ((m < 4096)
     × ((y : ℕ) × (x : ℕ) × EndPlaces nums n o y x × ((j : ℕ) × (j < m) × (getD objectors j 0 ≡ y) × (getD targets j 0 ≡ x)))
-    × (r ≡ Repeated k)))
+    × (r ≡ Repeated (n + m + 1))))

@@ -41,6 +41,14 @@ fn ended(text: &[u8]) -> bool
     false
 }
 
+// The number of the line after n statements and m objections.
+fn line_after(n: usize, m: usize) -> u32
+    requires { ⌜ (n ≤ 1024) × (m ≤ 4096) ⌝ }
+    ensures { λ r. ⌜ r ≡ n + m + 1 ⌝ }
+{
+    (n + m + 1) as u32
+}
+
 // Takes a statement line after n statements and m objections: 4, 6, 5, or kept.
 fn take_statement(
     numbers: &mut [u32],
@@ -49,22 +57,21 @@ fn take_statement(
     n: usize,
     m: usize,
     statement: StatementLine,
-    line_no: u32,
 ) -> Taken
-    requires { ⌜ (n ≤ 1024) × (1024 ≤ length (now numbers)) × (1024 ≤ length (now marks)) ⌝ }
+    requires { ⌜ (n ≤ 1024) × (m ≤ 4096) × (1024 ≤ length (now numbers)) × (1024 ≤ length (now marks)) ⌝ }
     requires { ⌜ Indexed (now numbers) n (now links) ⌝ }
-    ensures { λ t. ⌜ StatementTaken (now (numbers .entry)) (now (marks .entry)) n m statement «line_no» (now (numbers .exit))
+    ensures { λ t. ⌜ StatementTaken (now (numbers .entry)) (now (marks .entry)) n m statement (now (numbers .exit))
         (now (marks .exit)) t × InStep (now (numbers .exit)) n (now (links .exit)) t ⌝ }
 {
     if m > 0 {
-        return Taken::AtFault(TextFault::Late(line_no));
+        return Taken::AtFault(TextFault::Late(line_after(n, m)));
     }
     if n >= 1024 {
-        return Taken::AtFault(TextFault::Statements(line_no));
+        return Taken::AtFault(TextFault::Statements(line_after(n, m)));
     }
     let number = statement.number;
     if register_index::look_up(numbers, n, links, number) < n {
-        return Taken::AtFault(TextFault::Issued(line_no));
+        return Taken::AtFault(TextFault::Issued(line_after(n, m)));
     }
     let mark = statement.mark;
     register_index::enter(numbers, n, links, number);
@@ -81,31 +88,30 @@ fn take_objection(
     n: usize,
     m: usize,
     objection: ObjectionLine,
-    line_no: u32,
 ) -> Taken
     requires { ⌜ (n ≤ 1024) × (m ≤ 4096) × (1024 ≤ length (now numbers)) × (4096 ≤ length (now objectors))
         × (4096 ≤ length (now targets)) ⌝ }
     requires { ⌜ Indexed (now numbers) n (now links) × (0 < m → Entered n m (now objectors) (now targets)) ⌝ }
     ensures { λ t. ⌜ ObjectionTaken (now (numbers .entry)) (objectorsIn (now (objectors .entry))) (targetsIn (now (objectors .entry)))
-        n m objection «line_no» (objectorsIn (now (objectors .exit))) (targetsIn (now (objectors .exit))) t
+        n m objection (objectorsIn (now (objectors .exit))) (targetsIn (now (objectors .exit))) t
         × (t ≡ Kept → Entered n (m + 1) (now (objectors .exit)) (now (targets .exit))) ⌝ }
 {
     if m >= 4096 {
-        return Taken::AtFault(TextFault::Objections(line_no));
+        return Taken::AtFault(TextFault::Objections(line_after(n, m)));
     }
     let objector = objection.objector;
     let y = register_index::look_up(numbers, n, links, objector);
     if y >= n {
-        return Taken::AtFault(TextFault::Unknown(line_no));
+        return Taken::AtFault(TextFault::Unknown(line_after(n, m)));
     }
     let target = objection.target;
     let x = register_index::look_up(numbers, n, links, target);
     if x >= n {
-        return Taken::AtFault(TextFault::Unknown(line_no));
+        return Taken::AtFault(TextFault::Unknown(line_after(n, m)));
     }
     pair_repeat::begin(objectors, targets, n, m);
     if pair_repeat::pair_at(objectors, targets, n, m, y, x) < m {
-        return Taken::AtFault(TextFault::Repeated(line_no));
+        return Taken::AtFault(TextFault::Repeated(line_after(n, m)));
     }
     pair_repeat::enter(objectors, targets, n, m, y, x);
     Taken::Kept
@@ -132,13 +138,12 @@ fn read_lines(
     let mut m = 0;
     // The lines before `at` are a register of n statements and m objections; the rooms hold it, and its numbers are indexed.
     while at < text.len() {
-        let line_no = (n + m + 1) as u32;
         let Got::Good(line, next) = register_line::reader::line_from(text, at) else {
-            return Reading::Refused(TextFault::Spoiled(line_no));
+            return Reading::Refused(TextFault::Spoiled(line_after(n, m)));
         };
         match line {
             Line::Statement(statement) => {
-                let taken = take_statement(numbers, marks, links, n, m, statement, line_no);
+                let taken = take_statement(numbers, marks, links, n, m, statement);
                 if let Taken::AtFault(fault) = taken {
                     return Reading::Refused(fault);
                 }
@@ -147,16 +152,7 @@ fn read_lines(
                 continue;
             }
             Line::Objection(objection) => {
-                let taken = take_objection(
-                    numbers,
-                    links,
-                    objectors,
-                    targets,
-                    n,
-                    m,
-                    objection,
-                    line_no,
-                );
+                let taken = take_objection(numbers, links, objectors, targets, n, m, objection);
                 if let Taken::AtFault(fault) = taken {
                     return Reading::Refused(fault);
                 }

@@ -34,33 +34,6 @@ loop-holds c =
     let pre = c .before .before .before .before .before .before .pre in
     (start _ _ _ _ _, refl, refl, refl, refl, refl, pre .1 .1, λ h. absurd (omega arith))
 
-add-line-no : tie.Need-add-line-no Inv-loop μ-loop
-add-line-no c =
-    let args = c .before .before .before .before .before .before .before .before .args in
-    omega (
-      arith,
-      few (args .text .now) (c .before .loop .at) (c .before .loop .n) (c .before .loop .m) (c .before .loop .numbers)
-          (c .before .loop .marks) (objectorsIn (c .before .loop .objectors)) (targetsIn (c .before .loop .objectors)) (c .before .loop .inv .0),
-    )
-
-add-line-no-2 : tie.Need-add-line-no-2 Inv-loop μ-loop
-add-line-no-2 c =
-    let args = c .before .before .before .before .before .before .before .before .args in
-    omega (
-      arith,
-      few (args .text .now) (c .before .loop .at) (c .before .loop .n) (c .before .loop .m) (c .before .loop .numbers)
-          (c .before .loop .marks) (objectorsIn (c .before .loop .objectors)) (targetsIn (c .before .loop .objectors)) (c .before .loop .inv .0),
-    )
-
-cast-line-no : tie.Need-cast-line-no Inv-loop μ-loop
-cast-line-no c =
-    let args = c .before .before .before .before .before .before .before .before .args in
-    omega (
-      arith,
-      few (args .text .now) (c .before .loop .at) (c .before .loop .n) (c .before .loop .m) (c .before .loop .numbers)
-          (c .before .loop .marks) (objectorsIn (c .before .loop .objectors)) (targetsIn (c .before .loop .objectors)) (c .before .loop .inv .0),
-    )
-
 line-from-requires : tie.Need-line-from-requires Inv-loop μ-loop
 line-from-requires c κs = search needs
 
@@ -70,29 +43,37 @@ enum-known-line c = search needs
 enum-told : tie.Need-enum-told Inv-loop μ-loop
 enum-told c = search needs
 
+line-after-requires : tie.Need-line-after-requires Inv-loop μ-loop
+line-after-requires c κs =
+    let args = c .before .before .before .before .before .before .before .before .before .before .before .args in
+    let loop = c .before .before .before .before .loop in
+    few (args .text .now) (loop .at) (loop .n) (loop .m) (loop .numbers) (loop .marks) (objectorsIn (loop .objectors))
+    (targetsIn (loop .objectors)) (loop .inv .0)
+
 same-length : tie.Need-same-length Inv-loop μ-loop
-same-length c = c .before .before .before .before .loop .inv .1
+same-length c = c .before .before .before .before .before .loop .inv .1
 
 same-length-2 : tie.Need-same-length-2 Inv-loop μ-loop
-same-length-2 c = c .before .before .before .before .loop .inv .2
+same-length-2 c = c .before .before .before .before .before .loop .inv .2
 
 same-length-3 : tie.Need-same-length-3 Inv-loop μ-loop
-same-length-3 c = c .before .before .before .before .loop .inv .3
+same-length-3 c = c .before .before .before .before .before .loop .inv .3
 
 same-length-4 : tie.Need-same-length-4 Inv-loop μ-loop
-same-length-4 c = c .before .before .before .before .loop .inv .4
+same-length-4 c = c .before .before .before .before .before .loop .inv .4
 
 same-length-5 : tie.Need-same-length-5 Inv-loop μ-loop
-same-length-5 c = c .before .before .before .before .loop .inv .5
+same-length-5 c = c .before .before .before .before .before .loop .inv .5
 
 returns : tie.Need-returns Inv-loop μ-loop
 returns c =
-    let args = c .before .before .before .before .before .before .before .before .before .before .before .args in
-    let pre = c .before .before .before .before .before .before .before .before .before .before .before .pre in
-    let loop = c .before .before .before .before .loop in
-    spoiled (args .text .now) (loop .at) (loop .n) (loop .m) (loop .numbers) (loop .marks) (objectorsIn (loop .objectors)) (targetsIn (loop .objectors))
-    (loop .inv .0) (pre .0 .0) (pre .0 .1) (c .before .before .before .loop-test .taken)
-    (rw (c .enum-told .given .1) at (c .before .before .line-from .ensures))
+    let start = c .before .before .before .before .before .before .before .before .before .before .before .before in
+    let line-from = c .before .before .before .line-from in
+    let told = c .before .enum-told .given .1 in
+    let loop = c .before .before .before .before .before .loop in
+    let spoils = spoiled (start .args .text .now) (loop .at) (loop .n) (loop .m) (loop .numbers) (loop .marks)
+    (objectorsIn (loop .objectors)) (targetsIn (loop .objectors)) (loop .inv .0) (start .pre .0 .0) (start .pre .0 .1) in
+    rw (c .line-after .ensures) (spoils (c .before .before .before .before .loop-test .taken) (rw told at (line-from .ensures)))
 
 enum-known-line-2 : tie.Need-enum-known-line-2 Inv-loop μ-loop
 enum-known-line-2 c = search needs
@@ -106,6 +87,7 @@ take-statement-requires c κs =
     (loop .inv .0) in (
       (
         f .0,
+        f .1,
         omega (arith, loop .inv .1, pre .1 .0 .numbers-room),
         omega (arith, loop .inv .2, pre .1 .0 .marks-room),
       ),
@@ -370,12 +352,10 @@ read-lines-spec =
     Inv-loop
     μ-loop
     loop-holds
-    add-line-no
-    add-line-no-2
-    cast-line-no
     line-from-requires
     enum-known-line
     enum-told
+    line-after-requires
     same-length
     same-length-2
     same-length-3

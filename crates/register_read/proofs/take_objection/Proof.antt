@@ -13,20 +13,37 @@ use Rattle.register_read.proofs.take_objection.Tie as tie
 not-kept : (r : TextFault) {A : Type 0} → AtFault r ≡ Kept → A
 not-kept r e = let z : _≡_ {A = ℕ} 0 1 = cc in absurd (omega arith)
 
+line-after-requires : tie.Need-line-after-requires
+line-after-requires c κs = search needs
+
 returns : tie.Need-returns
-returns c = (inl (c .if1 .taken, refl), not-kept _)
+returns c = (inl (c .before .if1 .taken, rw (c .line-after .ensures) refl), not-kept _)
 
 look-up-requires : tie.Need-look-up-requires
 look-up-requires c κs = c .before .before .before .before .before .pre .1 .0
 
+line-after-requires-2 : tie.Need-line-after-requires-2
+line-after-requires-2 c κs = search needs
+
 returns-2 : tie.Need-returns-2
-returns-2 c = (inr (inl (omega arith, inl (λ i l. c .before .look-up .ensures .1 i (omega arith)), refl)), not-kept _)
+returns-2 c =
+    let look-up = c .before .before .look-up in (
+      inr (inl (omega arith, inl (λ i l. look-up .ensures .1 i (omega arith)), rw (c .line-after2 .ensures) refl)),
+      not-kept _,
+    )
 
 look-up-requires-2 : tie.Need-look-up-requires-2
 look-up-requires-2 c κs = c .before .before .before .before .before .before .before .pre .1 .0
 
+line-after-requires-3 : tie.Need-line-after-requires-3
+line-after-requires-3 c κs = search needs
+
 returns-3 : tie.Need-returns-3
-returns-3 c = (inr (inl (omega arith, inr (λ i l. c .before .look-up2 .ensures .1 i (omega arith)), refl)), not-kept _)
+returns-3 c =
+    let look-up2 = c .before .before .look-up2 in (
+      inr (inl (omega arith, inr (λ i l. look-up2 .ensures .1 i (omega arith)), rw (c .line-after3 .ensures) refl)),
+      not-kept _,
+    )
 
 begin-requires : tie.Need-begin-requires
 begin-requires c κs =
@@ -36,6 +53,9 @@ begin-requires c κs =
 pair-at-requires : tie.Need-pair-at-requires
 pair-at-requires c κs = (c .before .before .before .before .begin .ensures, c .before .before .before .before .before .before .before .before .before .before .before .before .before .before .before .before .pre .0 .1, c .before .before .before .before .before .before .before .before .before .if2 .left, c .before .before .before .before .before .before .before .if3 .left)
 
+line-after-requires-4 : tie.Need-line-after-requires-4
+line-after-requires-4 c κs = search needs
+
 same-length : tie.Need-same-length
 same-length c = search needs
 
@@ -44,12 +64,14 @@ same-length-2 c = search needs
 
 returns-4 : tie.Need-returns-4
 returns-4 c =
-    let look-up = c .before .before .before .before .before .before .before .before .before .before .before .before .look-up in
-    let if2 = c .before .before .before .before .before .before .before .before .before .before .before .if2 in
-    let look-up2 = c .before .before .before .before .before .before .before .before .before .before .look-up2 in
-    let if3 = c .before .before .before .before .before .before .before .before .before .if3 in
-    let found = c .before .pair-at .ensures in
-    let room = c .before .before .before .before .before .before .before .before .before .before .before .before .before .if1 .left in (
+    let known = c .before .before .before .before .before .before .before .before .before .before in
+    let look-up = known .before .before .before .look-up in
+    let if2 = known .before .before .if2 in
+    let look-up2 = known .before .look-up2 in
+    let if3 = known .if3 in
+    let pair-at = c .before .before .pair-at in
+    let twin = c .before .if4 .taken in
+    let room = known .before .before .before .before .if1 .left in (
       inr (inr (
         omega (arith, room),
         (
@@ -61,9 +83,9 @@ returns-4 c =
             target = (if3 .left, look-up2 .ensures .2 (if3 .left));
             target-first = look-up2 .ensures .1;
           },
-          (c .before .pair-at .result, c .if4 .taken, found .2 (c .if4 .taken) .0, found .2 (c .if4 .taken) .1),
+          (pair-at .result, twin, pair-at .ensures .2 twin .0, pair-at .ensures .2 twin .1),
         ),
-        refl,
+        rw (c .line-after4 .ensures) refl,
       )),
       not-kept _,
     )
@@ -108,13 +130,17 @@ pub take-objection-spec : {M : Type 1} → statement M
 take-objection-spec =
     tie.close
     (tie.spec
+    line-after-requires
     returns
     look-up-requires
+    line-after-requires-2
     returns-2
     look-up-requires-2
+    line-after-requires-3
     returns-3
     begin-requires
     pair-at-requires
+    line-after-requires-4
     same-length
     same-length-2
     returns-4

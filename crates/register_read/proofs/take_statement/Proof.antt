@@ -6,16 +6,25 @@ use borrow.Author.Needs.{needs}
 use Rattle.register_read.proofs.take_statement.Statement.{statement}
 use Rattle.register_read.proofs.take_statement.Tie as tie
 
+line-after-requires : tie.Need-line-after-requires
+line-after-requires c κs = search needs
+
 returns : tie.Need-returns
-returns c = (inl (c .if1 .taken, refl), c .before .before .before .before .pre .1)
+returns c = (inl (c .before .if1 .taken, rw (c .line-after .ensures) refl), c .before .before .before .before .before .pre .1)
+
+line-after-requires-2 : tie.Need-line-after-requires-2
+line-after-requires-2 c κs = search needs
 
 returns-2 : tie.Need-returns-2
 returns-2 c =
-    let pre = c .before .before .before .before .before .pre in
-    (inr (inl (omega arith, c .if2 .taken, refl)), pre .1)
+    let pre = c .before .before .before .before .before .before .pre in
+    (inr (inl (omega arith, c .before .if2 .taken, rw (c .line-after2 .ensures) refl)), pre .1)
 
 look-up-requires : tie.Need-look-up-requires
 look-up-requires c κs = c .before .before .before .before .before .before .before .pre .1
+
+line-after-requires-3 : tie.Need-line-after-requires-3
+line-after-requires-3 c κs = search needs
 
 same-length : tie.Need-same-length
 same-length c = search needs
@@ -25,15 +34,14 @@ same-length-2 c = search needs
 
 returns-3 : tie.Need-returns-3
 returns-3 c =
-    let pre = c .before .before .before .before .before .before .before .before .before .pre in (
+    let pre = c .before .before .before .before .before .before .before .before .before .before .pre in
+    let look-up = c .before .before .look-up in
+    let found = c .before .if3 .taken in (
       inr (inr (
         omega arith,
         omega arith,
-        (
-          c .before .look-up .result,
-          (c .if3 .taken, c .before .look-up .ensures .2 (c .if3 .taken)),
-        ),
-        refl,
+        (look-up .result, (found, look-up .ensures .2 found)),
+        rw (c .line-after3 .ensures) refl,
       )),
       pre .1,
     )
@@ -82,9 +90,12 @@ pub take-statement-spec : {M : Type 1} → statement M
 take-statement-spec =
     tie.close
     (tie.spec
+    line-after-requires
     returns
+    line-after-requires-2
     returns-2
     look-up-requires
+    line-after-requires-3
     same-length
     same-length-2
     returns-3

@@ -40,7 +40,8 @@ module _ (R : Register) (n m : ℕ) (nums marks objectors targets : List ℕ) (h
   -- the entries of the objections' rooms are the places of their numbers
   entry-at : (nos room : List ℕ) → take m room ≡ map (placeOf (numbers R)) nos → length nos ≡ m → (j : ℕ) → j < m
       → getD room j 0 ≡ placeOf (numbers R) (getD nos j 0)
-  entry-at nos room e c j l = sym (getD-take m room j 0 l) ∙ ap (λ u. getD u j 0) e ∙ mapped (placeOf (numbers R)) nos j (omega arith)
+  entry-at nos room e c j l = sym (getD-take m room j 0 l) ∙ ap (λ u. getD u j 0) e ∙ mapped (placeOf (numbers R)) nos j
+      (omega arith)
 
   objectors-counted : length (objectorNumbers R) ≡ m
   objectors-counted = length-map (R .objections) (λ (o : ObjectionLine). o .objector) ∙ h .objections
@@ -106,8 +107,10 @@ module _ (R : Register) (o : ObjectionLine) where
     numbers-are = h .numbers-are;
     marks-are = h .marks-are;
     objectors-are =
-        more objectors y (o .objector) (objectorNumbers R) (objectorNumbers (with-objection R o)) a (h .objectors-are) p (objectors-more R o);
-    targets-are = more targets x (o .target) (targetNumbers R) (targetNumbers (with-objection R o)) b (h .targets-are) q (targets-more R o);
+        more objectors y (o .objector) (objectorNumbers R) (objectorNumbers (with-objection R o)) a (h .objectors-are) p
+        (objectors-more R o);
+    targets-are = more targets x (o .target) (targetNumbers R) (targetNumbers (with-objection R o)) b (h .targets-are) q
+        (targets-more R o);
   }
     where
       more : (room : List ℕ) (e v : ℕ) (nos nos′ : List ℕ) → m < length room → take m room ≡ map (placeOf (numbers R)) nos

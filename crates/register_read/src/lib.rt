@@ -92,8 +92,9 @@ fn take_objection(
     requires { ⌜ (n ≤ 1024) × (m ≤ 4096) × (1024 ≤ length (now numbers)) × (4096 ≤ length (now objectors))
         × (4096 ≤ length (now targets)) ⌝ }
     requires { ⌜ Indexed (now numbers) n (now links) × (0 < m → Entered n m (now objectors) (now targets)) ⌝ }
-    ensures { λ t. ⌜ ObjectionTaken (now (numbers .entry)) (objectorsIn (now (objectors .entry))) (targetsIn (now (objectors .entry)))
-        n m objection (objectorsIn (now (objectors .exit))) (targetsIn (now (objectors .exit))) t
+    ensures { λ t. ⌜ ObjectionTaken (now (numbers .entry)) (objectorsIn (now (objectors .entry)))
+        (targetsIn (now (objectors .entry))) n m objection (objectorsIn (now (objectors .exit)))
+        (targetsIn (now (objectors .exit))) t
         × (t ≡ Kept → Entered n (m + 1) (now (objectors .exit)) (now (targets .exit))) ⌝ }
 {
     if m >= 4096 {

@@ -38,12 +38,15 @@ enum-known-reading-2 c = search needs
 
 returns : tie.Need-returns
 returns c =
-    let args = c .before .before .before .before .before .before .before .before .before .before .before .before .before .before .before .before .before .before .before .args in
-    let solve-text = c .before .before .before .before .before .before .before .before .before .before .solve-text in
+    let back = c .before .before .before .before .before .before .before .before in
+    let far = back .before .before .before .before .before .before .before .before in
+    let args = far .before .before .before .args in
+    let solve-text = back .before .before .solve-text in
     let reading2 = c .before .before .reading2 in
     room-short (args .text .now) (solve-text .last .1 .0) (solve-text .last .1 .1 .0) (solve-text .last .1 .1 .1 .0)
     (solve-text .last .1 .1 .1 .1 .0) (solve-text .last .1 .1 .1 .1 .1 .0) (solve-text .last .1 .1 .1 .1 .1 .1 .0)
-    (reading2 .given .0 .0) (reading2 .given .0 .1 .0) (rw (reading2 .given .1) at (solve-text .ensures)) accountNumber (args .room .now)
+    (reading2 .given .0 .0) (reading2 .given .0 .1 .0) (rw (reading2 .given .1) at (solve-text .ensures)) accountNumber
+    (args .room .now)
     (c .if1 .taken)
 
 slice-aggregate-copy-labels : tie.Need-slice-aggregate-copy-labels
@@ -51,8 +54,10 @@ slice-aggregate-copy-labels c = search needs
 
 copy-labels-requires : tie.Need-copy-labels-requires
 copy-labels-requires c κs =
-    let args = c .before .before .before .before .before .before .before .before .before .before .before .before .before .before .before .before .before .before .before .before .before .args in
-    let solve-text = c .before .before .before .before .before .before .before .before .before .before .before .before .solve-text in
+    let back = c .before .before .before .before .before .before .before .before in
+    let far = back .before .before .before .before .before .before .before .before in
+    let args = far .before .before .before .before .before .args in
+    let solve-text = back .before .before .before .before .solve-text in
     let reading2 = c .before .before .before .before .reading2 in (
       omega (
         arith,
@@ -67,8 +72,11 @@ copy-labels-requires c κs =
 
 cast-t34 : tie.Need-cast-t34
 cast-t34 c =
-    let args = c .before .before .before .before .before .before .before .before .before .before .before .before .before .before .before .before .before .before .before .before .before .before .before .before .args in
-    let solve-text = c .before .before .before .before .before .before .before .before .before .before .before .before .before .before .before .solve-text in
+    let back = c .before .before .before .before .before .before .before .before in
+    let far = back .before .before .before .before .before .before .before .before in
+    let further = far .before .before .before .before .before .before .before .before in
+    let args = further .args in
+    let solve-text = back .before .before .before .before .before .before .before .solve-text in
     let reading2 = c .before .before .before .before .before .before .before .reading2 in
     omega (
       arith,
@@ -87,8 +95,11 @@ same-length c = search needs
 
 returns-3 : tie.Need-returns-3
 returns-3 c =
-    let args = c .before .before .before .before .before .before .before .before .before .before .before .before .before .before .before .before .before .before .before .before .before .before .before .before .args in
-    let solve-text = c .before .before .before .before .before .before .before .before .before .before .before .before .before .before .before .solve-text in
+    let back = c .before .before .before .before .before .before .before .before in
+    let far = back .before .before .before .before .before .before .before .before in
+    let further = far .before .before .before .before .before .before .before .before in
+    let args = further .args in
+    let solve-text = back .before .before .before .before .before .before .before .solve-text in
     let reading2 = c .before .before .before .before .before .before .before .reading2 in
     labels-given (args .text .now) (solve-text .last .1 .0) (solve-text .last .1 .1 .0) (solve-text .last .1 .1 .1 .0)
     (solve-text .last .1 .1 .1 .1 .0) (solve-text .last .1 .1 .1 .1 .1 .0) (solve-text .last .1 .1 .1 .1 .1 .1 .0)

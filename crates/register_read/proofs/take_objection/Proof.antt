@@ -51,7 +51,14 @@ begin-requires c κs =
     ((pre .0 .0, pre .0 .3, omega (arith, pre .0 .4)), pre .1 .1)
 
 pair-at-requires : tie.Need-pair-at-requires
-pair-at-requires c κs = (c .before .before .before .before .begin .ensures, c .before .before .before .before .before .before .before .before .before .before .before .before .before .before .before .before .pre .0 .1, c .before .before .before .before .before .before .before .before .before .if2 .left, c .before .before .before .before .before .before .before .if3 .left)
+pair-at-requires c κs =
+    let back = c .before .before .before .before .before .before .before .before in
+    let far = back .before .before .before .before .before .before .before .before in (
+      c .before .before .before .before .begin .ensures,
+      far .pre .0 .1,
+      back .before .if2 .left,
+      c .before .before .before .before .before .before .before .if3 .left,
+    )
 
 line-after-requires-4 : tie.Need-line-after-requires-4
 line-after-requires-4 c κs = search needs
@@ -92,7 +99,15 @@ returns-4 c =
 
 enter-requires : tie.Need-enter-requires
 enter-requires c κs =
-    ((c .before .before .before .before .before .before .before .before .begin .ensures, omega (arith, c .before .before .before .before .before .before .before .before .before .before .before .before .before .before .before .if1 .left), c .before .before .before .before .before .before .before .before .before .before .before .before .before .if2 .left, c .before .before .before .before .before .before .before .before .before .before .before .if3 .left), λ e h. c .before .before .before .pair-at .ensures .1 e (omega (arith, c .before .before .if4 .left)))
+    let back = c .before .before .before .before .before .before .before .before in (
+      (
+        back .begin .ensures,
+        omega (arith, back .before .before .before .before .before .before .before .if1 .left),
+        back .before .before .before .before .before .if2 .left,
+        back .before .before .before .if3 .left,
+      ),
+      λ e h. c .before .before .before .pair-at .ensures .1 e (omega (arith, c .before .before .if4 .left)),
+    )
 
 same-length-3 : tie.Need-same-length-3
 same-length-3 c = search needs
@@ -102,12 +117,14 @@ same-length-4 c = search needs
 
 returns-5 : tie.Need-returns-5
 returns-5 c =
-    let look-up = c .before .before .before .before .before .before .before .before .before .before .before .before .before .before .before .before .before .before .before .look-up in
-    let if2 = c .before .before .before .before .before .before .before .before .before .before .before .before .before .before .before .before .before .before .if2 in
-    let look-up2 = c .before .before .before .before .before .before .before .before .before .before .before .before .before .before .before .before .before .look-up2 in
-    let if3 = c .before .before .before .before .before .before .before .before .before .before .before .before .before .before .before .before .if3 in
-    let found = c .before .before .before .before .before .before .before .before .pair-at .ensures in
-    let room = c .before .before .before .before .before .before .before .before .before .before .before .before .before .before .before .before .before .before .before .before .if1 .left in
+    let back = c .before .before .before .before .before .before .before .before in
+    let far = back .before .before .before .before .before .before .before .before in
+    let look-up = far .before .before .before .look-up in
+    let if2 = far .before .before .if2 in
+    let look-up2 = far .before .look-up2 in
+    let if3 = far .if3 in
+    let found = back .pair-at .ensures in
+    let room = far .before .before .before .before .if1 .left in
     let enter = c .before .before .before .before .enter in (
       (
         omega (arith, room),

@@ -1,1 +1,1 @@
-pub mod TextSolved
+pub mod TextWritten

@@ -1,36 +1,42 @@
-// The public calls for the labels and the lengths of a whole register text. Each has it read and labelled in rooms of its own,
-// and writes its answer only where there is room for all of it. The listing is left to `call_listing`.
+// The public calls for the labels and the lengths of a whole register text. Each has the text read in rooms of its own, and the
+// solver write straight into the lent room once that is known to be long enough: so nothing is copied, and a refused text costs
+// no room for labels. The listing is left to `call_listing`.
 use answer::Answer;
 use answer::Refusal;
 use register_read::Reading;
-ghost use mathlib.Core.Path.{_≡_};
-ghost use Prim.Native.Nat.{_≤_};
-ghost use lib.ListN.{length, getD};
-ghost use Rattle.answer.specs.Answer.{Begins};
+ghost use Rattle.game.specs.Account.{accountNumber, accountLength};
+ghost use Rattle.lists.specs.Handed.{Handed};
 ghost use Rattle.promises.specs.LabelCalls.{TextLabels, TextLengths};
+ghost use Rattle.call_labels_text.specs.StatementsWritten.{StatementsWritten};
 
-fn copy_labels(from: &[u8], n: usize, room: &mut [u8])
-    requires { ⌜ (n ≤ length (now from)) × (n ≤ length (now room)) ⌝ }
-    ensures { λ _. ⌜ Begins n (λ k e. e ≡ getD (now (from .entry)) k 0) (now (room .entry)) (now (room .exit)) ⌝ }
+// The labels of lists that are in order.
+fn write_labels(marks: &[u8], objectors: &[u32], targets: &[u32], room: &mut [u8]) -> Answer
+    requires { ⌜ Handed (now marks) (now objectors) (now targets) ⌝ }
+    ensures { λ a. ⌜ StatementsWritten accountNumber (now (marks .entry)) (now (objectors .entry)) (now (targets .entry))
+        (now (room .entry)) a (now (room .exit)) ⌝ }
 {
-    let mut k = 0;
-    // The room begins with the first k labels, and beyond them is as it was.
-    while k < n {
-        room[k] = from[k];
-        k += 1;
+    let n = marks.len();
+    if room.len() < n {
+        return Answer::Refused(Refusal::Room);
     }
+    let mut lengths = [0u16; 1024];
+    label_solve::solve(marks, objectors, targets, room, &mut lengths);
+    Answer::Given(n as u32)
 }
 
-fn copy_lengths(from: &[u16], n: usize, room: &mut [u16])
-    requires { ⌜ (n ≤ length (now from)) × (n ≤ length (now room)) ⌝ }
-    ensures { λ _. ⌜ Begins n (λ k e. e ≡ getD (now (from .entry)) k 0) (now (room .entry)) (now (room .exit)) ⌝ }
+// Their lengths.
+fn write_lengths(marks: &[u8], objectors: &[u32], targets: &[u32], room: &mut [u16]) -> Answer
+    requires { ⌜ Handed (now marks) (now objectors) (now targets) ⌝ }
+    ensures { λ a. ⌜ StatementsWritten accountLength (now (marks .entry)) (now (objectors .entry)) (now (targets .entry))
+        (now (room .entry)) a (now (room .exit)) ⌝ }
 {
-    let mut k = 0;
-    // The room begins with the first k lengths, and beyond them is as it was.
-    while k < n {
-        room[k] = from[k];
-        k += 1;
+    let n = marks.len();
+    if room.len() < n {
+        return Answer::Refused(Refusal::Room);
     }
+    let mut labels = [0u8; 1024];
+    label_solve::solve(marks, objectors, targets, &mut labels, room);
+    Answer::Given(n as u32)
 }
 
 // The label of each statement, in listed order.
@@ -41,26 +47,10 @@ pub fn text_labels(text: &[u8], room: &mut [u8]) -> Answer
     let mut marks = [0u8; 1024];
     let mut objectors = [0u32; 4096];
     let mut targets = [0u32; 4096];
-    let mut labels = [0u8; 1024];
-    let mut lengths = [0u16; 1024];
-    let reading = register_solve::solve_text(
-        text,
-        &mut numbers,
-        &mut marks,
-        &mut objectors,
-        &mut targets,
-        &mut labels,
-        &mut lengths,
-    );
+    let reading = register_read::read(text, &mut numbers, &mut marks, &mut objectors, &mut targets);
     match reading {
         Reading::Refused(fault) => Answer::Refused(Refusal::Text(fault)),
-        Reading::Whole(n, _) => {
-            if room.len() < n {
-                return Answer::Refused(Refusal::Room);
-            }
-            copy_labels(&labels, n, room);
-            Answer::Given(n as u32)
-        }
+        Reading::Whole(n, m) => write_labels(&marks[..n], &objectors[..m], &targets[..m], room),
     }
 }
 
@@ -72,25 +62,9 @@ pub fn text_lengths(text: &[u8], room: &mut [u16]) -> Answer
     let mut marks = [0u8; 1024];
     let mut objectors = [0u32; 4096];
     let mut targets = [0u32; 4096];
-    let mut labels = [0u8; 1024];
-    let mut lengths = [0u16; 1024];
-    let reading = register_solve::solve_text(
-        text,
-        &mut numbers,
-        &mut marks,
-        &mut objectors,
-        &mut targets,
-        &mut labels,
-        &mut lengths,
-    );
+    let reading = register_read::read(text, &mut numbers, &mut marks, &mut objectors, &mut targets);
     match reading {
         Reading::Refused(fault) => Answer::Refused(Refusal::Text(fault)),
-        Reading::Whole(n, _) => {
-            if room.len() < n {
-                return Answer::Refused(Refusal::Room);
-            }
-            copy_lengths(&lengths, n, room);
-            Answer::Given(n as u32)
-        }
+        Reading::Whole(n, m) => write_lengths(&marks[..n], &objectors[..m], &targets[..m], room),
     }
 }

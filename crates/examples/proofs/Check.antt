@@ -38,7 +38,7 @@ use Rattle.sheet.specs.Sheet.{codeAt, bytesFor, IsSheet, total}
 use Rattle.sheet.proofs.Codes.{code-beyond}
 use Rattle.reason.specs.Reasons.{IsReason}
 use Rattle.examples.specs.Table.{ascii, Row, lists, finishes, explains, packs, totalsOf, Says, Every, table, reasons}
-use Rattle.examples.specs.Table.{sheets}
+use Rattle.examples.specs.Table.{sheets, inParts}
 use Rattle.register.specs.Reads.{Accepts}
 
 -- The guess: fields end at bytes up to 10, and a line has three.
@@ -417,7 +417,7 @@ pass-is (r ∷ rs) t = let (p, q) = both (passes r) (pass rs) t in (passes-is r 
 
 -- Every example that 01 marks P holds.
 pub table-holds : Every Says table
-unfolding table ascii extend fields value add guess registerOf same issued numbered differ known distinct ordered accepted
+unfolding table inParts ascii extend fields value add guess registerOf same issued numbered differ known distinct ordered accepted
     verdictAt kindAt statementTold objectionTold listingOf kept added finishing passes pass any all bookOf standsWithin
     fallsWithin verdict verdictBy
     numberTest numberBytes decimal decimalIn bytes placeOf numbersRow statementRow statementRows objectionRow objectionRows

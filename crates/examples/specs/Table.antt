@@ -14,6 +14,11 @@ use Rattle.listing.specs.Listing.{IsListing}
 use Rattle.reason.specs.Reasons.{IsReason}
 use Rattle.register.specs.Reads.{Accepts}
 
+-- a listing in two parts, where it is too long for a line: the rows of statements, then those of objections
+unfoldable pub inParts : (first rest : String) → String
+inParts ended rest = rest
+inParts (c then s) rest = c then inParts s rest
+
 -- the bytes of a text as it is typed here: `\t` is byte 9, `\n` byte 10
 unfoldable pub ascii : String → List ℕ
 ascii ended = []
@@ -57,7 +62,8 @@ table =
     "REGISTER\t3\t3\n1\topen\t-\n2\topen\t-\n3\topen\t-\n1\t2\tstandoff\t-\n2\t3\tstandoff\t-\n3\t1\tstandoff\t-\n"
     -- "the listing above"
     ∷ lists "S\t101\tR\nS\t102\tR\nS\t103\tR\nS\t104\tR\nO\t102\t101\nO\t101\t102\nO\t103\t102\nO\t104\t103\n"
-    "REGISTER\t4\t4\n101\topen\t-\n102\topen\t-\n103\tfalls\t1\n104\tstands\t0\n102\t101\tstandoff\t-\n101\t102\tstandoff\t-\n103\t102\tidle\t-\n104\t103\tfelling\t1\n"
+    (inParts "REGISTER\t4\t4\n101\topen\t-\n102\topen\t-\n103\tfalls\t1\n104\tstands\t0\n"
+    "102\t101\tstandoff\t-\n101\t102\tstandoff\t-\n103\t102\tidle\t-\n104\t103\tfelling\t1\n")
     -- "1 unread, 2 read objects to 1, 1 objects to 3, 3 read: 2 stands 0, 1 falls 1, 3 stands 2"
     ∷ lists "S\t1\tU\nS\t2\tR\nS\t3\tR\nO\t2\t1\nO\t1\t3\n"
     "REGISTER\t3\t2\n1\tfalls\t1\n2\tstands\t0\n3\tstands\t2\n2\t1\tfelling\t1\n1\t3\tdelaying\t2\n"
@@ -65,11 +71,13 @@ table =
     ∷ lists "S\t1\tU\nS\t2\tR\nO\t1\t2\n" "REGISTER\t2\t1\n1\topen\t-\n2\topen\t-\n1\t2\tstandoff\t-\n"
     -- "4 against 3, 3 against 2, 2 against 1, with 1 unread and the rest read: 4 stands 0, 3 falls 1, 2 stands 2, 1 falls 3"
     ∷ lists "S\t1\tU\nS\t2\tR\nS\t3\tR\nS\t4\tR\nO\t4\t3\nO\t3\t2\nO\t2\t1\n"
-    "REGISTER\t4\t3\n1\tfalls\t3\n2\tstands\t2\n3\tfalls\t1\n4\tstands\t0\n4\t3\tfelling\t1\n3\t2\tdelaying\t2\n2\t1\tfelling\t3\n"
+    (inParts "REGISTER\t4\t3\n1\tfalls\t3\n2\tstands\t2\n3\tfalls\t1\n4\tstands\t0\n"
+    "4\t3\tfelling\t1\n3\t2\tdelaying\t2\n2\t1\tfelling\t3\n")
     -- "a finish adds 4 against 1: 1 falls 1"
     ∷ finishes "S\t1\tU\nS\t2\tR\nS\t3\tR\nS\t4\tR\nO\t4\t3\nO\t3\t2\nO\t2\t1\n"
     "S\t1\tR\nS\t2\tR\nS\t3\tR\nS\t4\tR\nO\t4\t3\nO\t3\t2\nO\t2\t1\nO\t4\t1\n"
-    "REGISTER\t4\t4\n1\tfalls\t1\n2\tstands\t2\n3\tfalls\t1\n4\tstands\t0\n4\t3\tfelling\t1\n3\t2\tdelaying\t2\n2\t1\tfelling\t3\n4\t1\tfelling\t1\n"
+    (inParts "REGISTER\t4\t4\n1\tfalls\t1\n2\tstands\t2\n3\tfalls\t1\n4\tstands\t0\n"
+    "4\t3\tfelling\t1\n3\t2\tdelaying\t2\n2\t1\tfelling\t3\n4\t1\tfelling\t1\n")
     -- "all read; 5 against 6; 6 against 7; 7 against 6: 5 stands 0, 6 falls 1, 7 stands 2; 7 against 6 is felling, length 3"
     ∷ lists "S\t5\tR\nS\t6\tR\nS\t7\tR\nO\t5\t6\nO\t6\t7\nO\t7\t6\n"
     "REGISTER\t3\t3\n5\tstands\t0\n6\tfalls\t1\n7\tstands\t2\n5\t6\tfelling\t1\n6\t7\tdelaying\t2\n7\t6\tfelling\t3\n"

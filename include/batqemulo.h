@@ -9,7 +9,9 @@
  *   room and leaves what lies beyond the answer as found.
  * - A length beside a pointer counts entries, not bytes. A pointer may be NULL where its length
  *   is 0.
- * - No room may overlap another room or an input. Inputs are only read.
+ * - No room may overlap another room or an input. Inputs are only read. Nothing else may write to
+ *   an input or a room while a call runs.
+ * - A room need not be set before a call, but for the old sheet and its totals in an update.
  * - A call on lists takes less than 32 KiB of stack, a call on a text less than 72 KiB, a call for
  *   a reason less than 80 KiB, a call that mends less than 128 KiB. A call for a line of argument
  *   goes as deep as the line is long and takes less than 256 KiB.

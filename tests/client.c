@@ -1,6 +1,8 @@
 /* A program as a customer would write it: it includes the header, hands two small registers over by
  * every call and looks at what comes back. The rooms are taken from the heap at just the length
- * that is needed, so that valgrind sees any step outside them. */
+ * that is needed, so that valgrind sees any step outside them; each call gets rooms that nobody
+ * has set, so that it sees too where an answer hangs on what was in them. With an argument, the
+ * program does what valgrind has to notice. */
 #include "batqemulo.h"
 
 #include <stdio.h>
@@ -132,7 +134,8 @@ static void ask_labels(const struct example *e) {
                                e->pairs, labels, e->statements);
     check(e, "labels of pairs",
           accepted(answer, e->statements) && memcmp(labels, e->labels, e->statements) == 0);
-    memset(labels, 9, e->statements);
+    free(labels);
+    labels = room(e->statements);
     answer = batqemulo_moves_labels(e->marks, e->statements, e->targets, e->pairs, e->objectors,
                                     e->pairs, labels, e->statements);
     check(e, "labels of moves",
@@ -148,7 +151,8 @@ static void ask_lengths(const struct example *e) {
                                 e->pairs, lengths, e->statements);
     check(e, "lengths of pairs",
           accepted(answer, e->statements) && memcmp(lengths, e->lengths, size) == 0);
-    memset(lengths, 9, size);
+    free(lengths);
+    lengths = room(size);
     answer = batqemulo_moves_lengths(e->marks, e->statements, e->targets, e->pairs, e->objectors,
                                      e->pairs, lengths, e->statements);
     check(e, "lengths of moves",
@@ -458,6 +462,9 @@ static void mend_old(void) {
     check(&old.as, "a short room for the report", refused(answer, BATQEMULO_ROOM_TOO_SHORT, 0));
     check(&old.as, "the rooms after refusals",
           all_are(mended, left, 7) && all_are(report, told, 7) && reported == 7);
+    free(report);
+    free(mended);
+    mended = room(left), report = room(told);
     answer = batqemulo_mend(text, bytes, mended, left, report, told, &reported);
     check(&old.as, "what is mended",
           accepted(answer, left) && memcmp(mended, old.mended, left) == 0);
@@ -521,7 +528,22 @@ static void ask_sheet_of_nothing(void) {
     check(&nothing, "a byte too many", refused(answer, BATQEMULO_SHEET_UNSOUND, 0));
 }
 
-int main(void) {
+/* An update reads its rooms: what nobody has set is no old sheet. */
+static int update_unset(void) {
+    uint8_t *sheet = room(1);
+    uint32_t *totals = room(sizeof game.totals);
+    batqemulo_answer answer =
+        batqemulo_sheet_update((const uint8_t *)game.text, strlen(game.text), sheet, 1, totals, 3);
+    printf("%u\n", answer.refusal);
+    free(totals);
+    free(sheet);
+    return 0;
+}
+
+int main(int argc, char **argv) {
+    (void)argv;
+    if (argc > 1)
+        return update_unset();
     const struct example *examples[] = {&game, &chain};
     for (size_t i = 0; i < sizeof examples / sizeof examples[0]; i++) {
         ask_labels(examples[i]);

@@ -271,7 +271,7 @@ try_pieces() {
     if [ ${#emulator[@]} -gt 0 ] || command -v strace >/dev/null; then
         try 'pieces of at most 65,536 bytes' small_pieces "$1"
     else
-        printf 'left out: the pieces of what is printed, for which strace is missing\n'
+        skip 'the pieces of what is printed, for which strace is missing'
     fi
 }
 

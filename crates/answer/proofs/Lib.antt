@@ -1,3 +1,4 @@
+pub mod InC
 pub mod Inputs
 pub mod Promises
 pub mod Rooms

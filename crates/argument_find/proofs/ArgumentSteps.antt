@@ -7,7 +7,8 @@ use native.Mathlib.Omega.{arith}
 use lib.ListN.{getD, length, drop}
 use Rattle.game.specs.Book.{bookOf}
 use Rattle.game.specs.Label.{Verdict, is-open, stands, falls, Least}
-use Rattle.game.specs.Account.{labelNumber, lengthNumber, Told}
+use Rattle.game.specs.Account.{labelNumber, lengthNumber}
+use Rattle.label_solve.specs.Labelled.{Told}
 use Rattle.game.specs.Argument.{Argument, ends, goes-on}
 use Rattle.game.proofs.Argument.{turns, last, line, line-unique, next}
 use Rattle.game.proofs.HandedBook.{objects-entry}

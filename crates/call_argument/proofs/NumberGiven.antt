@@ -9,7 +9,7 @@ use native.Mathlib.Omega.{arith}
 use lib.ListN.{drop, length, getD, length-append, length-map, List·getD-append}
 use lib.Seq.{ext-getD}
 use Rattle.game.specs.Book.{bookOf}
-use Rattle.game.specs.Find.{Found}
+use Rattle.game.specs.Questions.{Found}
 use Rattle.game.specs.Argument.{Argument}
 use Rattle.game.proofs.Argument.{line-bound, line-listed}
 use Rattle.label_solve.proofs.RoomParts.{beyond}

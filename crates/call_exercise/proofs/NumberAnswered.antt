@@ -6,7 +6,7 @@ use Prim.Native.Nat.{ℕ, _≤_, _<_}
 use native.Mathlib.Omega.{arith}
 use lib.ListN.{getD, length}
 use Rattle.game.specs.Book.{bookOf}
-use Rattle.game.specs.Find.{Found}
+use Rattle.game.specs.Questions.{Found}
 use Rattle.game.specs.Exercise.{Answered}
 use Rattle.register.specs.Register.{Register, Issued, Places}
 use Rattle.register_read.specs.ReadState.{Made}

@@ -2,10 +2,10 @@
 use mathlib.Core.Bool.{false}
 use mathlib.Core.List.{List, [], _++_}
 use mathlib.Core.Logic.{inl, inr}
-use mathlib.Core.Path.{ap, sym, refl, subst, _≡_, _∙_}
+use mathlib.Core.Path.{ap, sym, refl, _≡_, _∙_}
 use Prim.Native.Nat.{ℕ, _*_, _≤_, _<_}
 use native.Mathlib.Omega.{arith}
-use lib.ListN.{length, getD, drop, take}
+use lib.ListN.{length, drop, take, length-map}
 use Rattle.register.specs.Register.{written}
 use Rattle.register.proofs.Order.{marks-counted, numbers-counted}
 use Rattle.answer.specs.declared.Refusal.the-variants.{Room}
@@ -17,8 +17,10 @@ use Rattle.mend.specs.TextLines.{TextLine}
 use Rattle.mend.specs.Mended.{mended, listed, fates}
 use Rattle.mend.proofs.TextLines.{few-lines}
 use Rattle.mend.proofs.AllLines.{fates-counted}
-use Rattle.mend.proofs.Staying.{fates-low}
 use Rattle.mend.proofs.Valid.{never-longer}
+use Rattle.mend_line.specs.SettledRooms.{told}
+use Rattle.mend_report.specs.NumberedReport.{numberedReport}
+use Rattle.mend_report.proofs.NumberedReport.{report-is}
 use Rattle.mend_text.specs.Passes.{TextSettled}
 use Rattle.mend_text.specs.declared.KeptCounts.{KeptCounts}
 use Rattle.mend.specs.Report.{reportOf}
@@ -33,6 +35,12 @@ module _ (ls : List TextLine) (nums marks objectors targets fates-list : List �
     (m : MendedLists ls nums marks objectors targets fates-list) (room report : List ℕ) (found : ℕ) where
   text-is : copied nums marks objectors targets ≡ written (mended ls)
   text-is = copied-written (mended ls) nums marks objectors targets (m .made)
+
+  report-text : numberedReport fates-list ≡ reportOf (fates ls)
+  report-text = ap numberedReport (m .fates-are) ∙ report-is 0 (fates ls)
+
+  few : length (fates ls) ≤ 65535
+  few = omega (arith, m .few, ap length (m .fates-are), length-map (fates ls) told)
 
   pub copyable : Copyable nums objectors targets
   copyable = made-copyable (mended ls) nums marks objectors targets (m .made)
@@ -52,18 +60,12 @@ module _ (ls : List TextLine) (nums marks objectors targets fates-list : List �
     pub room-short : length room < size → MendWritten ls (room, report, found) (Refused Room) (room, report, found)
     room-short h = ((inl (omega (arith, size-is)), refl), refl)
 
-    module _ (report-size : ℕ) (report-is : report-size ≡ length (reportOf fates-list)) where
-      pub report-size-small : report-size ≤ 16 * 65535
-      report-size-small =
-          omega (
-            arith,
-            report-small fates-list (m .few) (λ k l. subst (λ fs. getD fs k 0 < 10) (sym (m .fates-are)) (fates-low ls k
-                (omega (arith, ap length (m .fates-are), fates-counted ls [] false (listed ls))))),
-            m .few,
-          )
-
+    module _ (report-size : ℕ) (report-length : report-size ≡ length (numberedReport fates-list)) where
       report-size-is : report-size ≡ length (reportOf (fates ls))
-      report-size-is = report-is ∙ ap (λ fs. length (reportOf fs)) (m .fates-are)
+      report-size-is = report-length ∙ ap length report-text
+
+      pub report-size-small : report-size ≤ 16 * 65535
+      report-size-small = omega (arith, report-size-is, report-small (fates ls) few, few)
 
       pub report-room-short : length report < report-size → MendWritten ls (room, report, found) (Refused Room)
           (room, report, found)
@@ -71,14 +73,14 @@ module _ (ls : List TextLine) (nums marks objectors targets fates-list : List �
 
       pub both-written : size ≤ length room → report-size ≤ length report → (room′ report′ : List ℕ)
           → room′ ≡ copied nums marks objectors targets ++ drop (length (copied nums marks objectors targets)) room
-          → report′ ≡ reportOf fates-list ++ drop (length (reportOf fates-list)) report
+          → report′ ≡ numberedReport fates-list ++ drop (length (numberedReport fates-list)) report
           → MendWritten ls (room, report, found) (Given size) (room′, report′, report-size)
       both-written h l room′ report′ e f = (
         (size-is, omega (arith, size-is), e ∙ ap (λ u. u ++ drop (length u) room) text-is),
         (
           report-size-is,
           omega (arith, report-size-is),
-          f ∙ ap (λ fs. reportOf fs ++ drop (length (reportOf fs)) report) (m .fates-are),
+          f ∙ ap (λ u. u ++ drop (length u) report) report-text,
         ),
       )
 
@@ -110,6 +112,7 @@ module _ (s : List ℕ) (h : length s ≤ 65535) (r : KeptCounts) (nums marks ob
         omega (
           arith,
           ap (λ j. length (take j fates-room)) (q .counted) ∙ ap length (q .settled .fates-are),
+          length-map (fates (q .ls)) told,
           fates-counted (q .ls) [] false (listed (q .ls)),
           few-lines s (q .ls) (q .lines-of),
         );

@@ -5,7 +5,7 @@ use mathlib.Core.Path.{_≡_}
 use Prim.Native.Nat.{ℕ, _<_}
 use native.Mathlib.Omega.{arith}
 use lib.ListN.{getD, length}
-use Rattle.game.specs.Find.{Found}
+use Rattle.game.specs.Questions.{Found}
 use Rattle.reason_find.specs.Ticks.{Chosen}
 use Rattle.register.specs.Register.{Register, Places}
 use Rattle.answer.specs.declared.Answer.{Answer}

@@ -1,1 +1,16 @@
+pub mod Argument
 pub mod Check
+pub mod Fault
+pub mod Idle
+pub mod Limits
+pub mod ListsTable
+pub mod MendLimits
+pub mod MendTable
+pub mod Printed
+pub mod Promise
+pub mod RestoredExample
+pub mod Rows
+pub mod Test
+pub mod Text
+pub mod TextTable
+pub mod Told

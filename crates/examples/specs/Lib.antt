@@ -1,1 +1,6 @@
+pub mod Limits
+pub mod ListsTable
+pub mod MendTable
+pub mod Printed
 pub mod Table
+pub mod TextTable

@@ -14,7 +14,7 @@ use Rattle.listing.specs.Listing.{IsListing}
 use Rattle.reason.specs.Reasons.{IsReason}
 use Rattle.register.specs.Reads.{Accepts}
 
--- a listing in two parts, where it is too long for a line: the rows of statements, then those of objections
+-- a text in two parts, where it is too long for a line
 unfoldable pub inParts : (first rest : String) → String
 inParts ended rest = rest
 inParts (c then s) rest = c then inParts s rest
@@ -43,7 +43,8 @@ Says (explains text number reason) =
 Says (packs text sheet totals) =
     (R : Register) × Accepts (ascii text) R × IsSheet (book R) sheet × (totals ≡ totalsOf sheet (book R .size))
 
-abbrev pub Every : (Row → Type 0) → List Row → Type 0
+-- what a table says: every row
+abbrev pub Every : {Row : Type 0} → (Row → Type 0) → List Row → Type 0
 Every P [] = Unit {0}
 Every P (r ∷ rs) = P r × Every P rs
 

@@ -7,7 +7,8 @@ use Prim.Native.Nat.{ℕ, zero, suc, _+_, _≤_, _<_}
 use native.Mathlib.Nat.{not-suc-le-zero}
 use native.Mathlib.Decide.{ℕ-discrete, decLt}
 use native.Mathlib.Omega.{arith}
-use Rattle.game.specs.Find.{Decides, Found, First}
+use Rattle.game.specs.Find.{First}
+use Rattle.game.specs.Questions.{Decides, Found}
 
 -- what a question was answered, where the answer was tried by its contrary
 pub denied : {P : Type 0} (b : Bool) → not b ≡ true → Decides P b → ¬ P

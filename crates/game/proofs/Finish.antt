@@ -8,6 +8,7 @@ use native.Mathlib.Decide.{decLe}
 use native.Mathlib.Omega.{arith}
 use lib.Dec.{T, ltb, lt→ltb, ltb→lt, eqb, eqb-refl, eqb→eq}
 use Rattle.game.specs.Book.{Book, Listed, Objects, Read, Unread}
+use Rattle.game.specs.Game.{FirstWins, SecondWins}
 use Rattle.game.specs.Label.{Means, falls, stands, Falls, Stands}
 use Rattle.game.specs.Finish.{between, Allowed, Finish, finished}
 use Rattle.game.proofs.Search.{and-of, both, or-left, or-cases, clash, decide, as-false, same-test, and-left, or-right}
@@ -181,6 +182,13 @@ module _ (B : Book) where
         stands-by B n x (refute (B .unread x) (λ u. exclusive plain n (suc n) x (stands-at plain n x t x (plain-self x h u)) t))
         (λ y o. falls-back n y (o .0) (stands-at plain n x t y (plain-old y x o)))
 
+  -- Nobody wins sooner there.
+  pub plain-first : (n x : ℕ) → x < B .size → FirstWins plain n x → FirstWins B n x
+  plain-first n x h t = falls-game B n x .0 (falls-back n x h (falls-game plain n x .1 t))
+
+  pub plain-second : (n x : ℕ) → x < B .size → SecondWins plain n x → SecondWins B n x
+  plain-second n x h t = stands-game B n x .0 (stands-back n x h (stands-game plain n x .1 t))
+
   -- Demand 3.
   pub falls-in-every-finish : (x : ℕ) → x < B .size → Falls B x ↔ ((F : Book) → Finish B F → Falls F x)
   falls-in-every-finish x h = (
@@ -193,7 +201,7 @@ module _ (B : Book) where
   )
     where
       back : ((F : Book) → Finish B F → Falls F x) → Falls B x
-      back f = let (n, t) = f plain plain-finish in (n, falls-game B n x .0 (falls-back n x h (falls-game plain n x .1 t)))
+      back f = let (n, t) = f plain plain-finish in (n, plain-first n x h t)
 
   pub stands-in-every-finish : (x : ℕ) → x < B .size → Stands B x ↔ ((F : Book) → Finish B F → Stands F x)
   stands-in-every-finish x h = (
@@ -206,7 +214,7 @@ module _ (B : Book) where
   )
     where
       back : ((F : Book) → Finish B F → Stands F x) → Stands B x
-      back f = let (n, t) = f plain plain-finish in (n, stands-game B n x .0 (stands-back n x h (stands-game plain n x .1 t)))
+      back f = let (n, t) = f plain plain-finish in (n, plain-second n x h t)
 
   pub falls-no-later : (F : Book) → Finish B F → (n x : ℕ) → x < B .size → Means B x (falls n) → (m : ℕ) × (m ≤ n)
       × Means F x (falls m)

@@ -2,11 +2,13 @@
 use mathlib.Core.Bool.{Bool, _&&_}
 use mathlib.Core.List.{List}
 use mathlib.Core.Logic.{_↔_}
-use mathlib.Core.Path.{subst, _≡_}
+use mathlib.Core.Path.{refl, subst, _≡_}
 use Prim.Native.Nat.{ℕ, _<_}
 use lib.Dec.{eqb, eqb→eq, T, eqb-refl}
 use lib.ListN.{length, getD}
-use Rattle.game.specs.Book.{Objects, bookOf}
+use Rattle.game.specs.Book.{Objects, InOrder, bookOf}
+use Rattle.game.specs.Account.{Account, OfObjection}
+use Rattle.game.proofs.Account.{objection-told}
 use Rattle.game.proofs.Search.{any-at, both, any-of, and-of}
 
 module _ (marks objectors targets : List ℕ) where
@@ -36,3 +38,11 @@ module _ (marks objectors targets : List ℕ) where
         any-of (length objectors) (entry y x) k h (and-of (eqb (getD objectors k 0) y) (eqb (getD targets k 0) x)
             (same (getD objectors k 0) y a) (same (getD targets k 0) x b)),
       )
+
+  -- each entry of lists in order is an objection, of which something is told
+  pub entry-told : InOrder marks objectors targets → (k : ℕ) → k < length objectors → (a : Account)
+      × OfObjection (bookOf marks objectors targets) (getD objectors k 0) (getD targets k 0) a
+  unfolding bookOf
+  entry-told order k h =
+      objection-told (bookOf marks objectors targets) (getD objectors k 0) (getD targets k 0) (order .target k h)
+      (objects-entry (getD objectors k 0) (getD targets k 0) .1 (order .objector k h, (k, (h, refl, refl))))

@@ -16,6 +16,11 @@ use Rattle.game.specs.declared.Kind.the-variants.{Felling, Idle, Delayin
 use Rattle.game.proofs.Verdict.{no-standing-against-standing, no-open-against-standing, no-standing-against-open, verdict}
 use Rattle.game.proofs.Verdict.{verdict-means, means-unique}
 
+-- the kind of the table; idle where the table says "never occurs"
+abbrev pub orIdle : Option Kind → Kind
+orIdle (some κ) = κ
+orIdle none = Idle
+
 module _ (B : Book) (y x : ℕ) where
   -- the three impossible places, whether the target is read or unread
   pub never-occurs : (v w : Verdict) → Objects B y x → Means B x v → Means B y w → kindOf v w ≡ none → ⊥

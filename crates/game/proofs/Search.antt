@@ -171,3 +171,8 @@ pub to-yes : {A : Type 0} (d : Dec A) → A → T (is-yes d)
 unfolding is-yes
 to-yes (yes a) b = tt
 to-yes (no f) b = absurd (f b)
+
+-- and as one or the other
+pub either? : {A : Type 0} → Dec A → A ⊎ (¬ A)
+either? (yes p) = inl p
+either? (no p) = inr p

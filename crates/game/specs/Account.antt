@@ -63,10 +63,3 @@ kindNumber κ = accountNumber (kindAccount κ)
 
 abbrev pub kindLength : Kind → ℕ
 kindLength κ = accountLength (kindAccount κ)
-
--- The numbers `label` and `length` are those of x's label and length.
-pub record Told (B : Book) (x label length : ℕ) : Type 0 where
-  pub verdict : Verdict
-  pub means : Means B x verdict
-  pub label-is : label ≡ labelNumber verdict
-  pub length-is : length ≡ lengthNumber verdict

@@ -8,5 +8,6 @@ pub mod Finish
 pub mod Game
 pub mod Label
 pub mod Objection
+pub mod Questions
 pub mod Reason
 pub mod Rules

@@ -30,8 +30,3 @@ pub record OfKind (B : Book) (y x : ℕ) (κ : Kind) : Type 0 where
   pub target-means : Means B x target
   pub objector-means : Means B y objector
   pub is : kindOf target objector ≡ some κ
-
--- the kind of the table; idle where the table says "never occurs"
-abbrev pub orIdle : Option Kind → Kind
-orIdle (some κ) = κ
-orIdle none = Idle

@@ -1,7 +1,7 @@
 -- The two ends of an objection as the code tells them: not for callers of the product.
 use Prim.Native.Nat.{ℕ, _<_}
 use Rattle.game.specs.Book.{Book, Objects}
-use Rattle.game.specs.Account.{Told}
+use Rattle.label_solve.specs.Labelled.{Told}
 
 -- What `kind_of` is told of an objection: the numbers of the labels of its two ends and of the objector's length, in
 -- some book that is small enough for 65,535 to be no length.

@@ -11,7 +11,8 @@ use lib.Dec.{eqb}
 use lib.ListN.{getD, length}
 use Rattle.game.specs.Book.{Book, bookOf, Objects, Read, Unread, Listed}
 use Rattle.game.specs.Label.{Verdict, falls, stands, is-open, Means}
-use Rattle.game.specs.Account.{Told, labelNumber, lengthNumber}
+use Rattle.game.specs.Account.{labelNumber, lengthNumber}
+use Rattle.label_solve.specs.Labelled.{Told}
 use Rattle.game.specs.Agree.{Fits, Agrees}
 use Rattle.game.proofs.Agree.{agrees-means}
 use Rattle.game.proofs.HandedBook.{objects-entry}

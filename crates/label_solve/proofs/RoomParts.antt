@@ -6,7 +6,7 @@ use native.Mathlib.Omega.{arith}
 use lib.ListN.{length, take, length-take, getD, drop, List·getD-append}
 use lib.Seq.{getD-append-add, getD-drop}
 use Rattle.game.specs.Book.{bookOf}
-use Rattle.game.specs.Account.{Told}
+use Rattle.label_solve.specs.Labelled.{Told}
 use Rattle.label_solve.specs.Labelled.{Labelled, Solved}
 
 pub part-length : (n : ℕ) (room : List ℕ) → n ≤ length room → length (take n room) ≡ n

@@ -4,8 +4,16 @@ use mathlib.Core.Path.{_≡_}
 use Prim.Native.Nat.{ℕ, _≤_}
 use lib.ListN.{getD, length}
 use Rattle.game.specs.Book.{Book, Listed, bookOf}
-use Rattle.game.specs.Account.{Told}
+use Rattle.game.specs.Label.{Verdict, Means}
+use Rattle.game.specs.Account.{labelNumber, lengthNumber}
 use Rattle.lists.specs.Handed.{Handed}
+
+-- The numbers `label` and `length` are those of x's label and length.
+pub record Told (B : Book) (x label length : ℕ) : Type 0 where
+  pub verdict : Verdict
+  pub means : Means B x verdict
+  pub label-is : label ≡ labelNumber verdict
+  pub length-is : length ≡ lengthNumber verdict
 
 -- each listed statement has its own label and length
 pub record Labelled (B : Book) (labels lengths : List ℕ) : Type 0 where

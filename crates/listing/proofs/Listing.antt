@@ -1,7 +1,7 @@
--- A register has one listing, and that of a text that is accepted has at most 131,072 bytes.
+-- A register within the limits has one listing, and that of a text that is accepted has at most 131,072 bytes.
 use mathlib.Core.List.{List, map, [], _∷_, _++_}
 use mathlib.Core.Option.{Option, none, some}
-use mathlib.Core.Path.{ap₂, sym, subst, ap, _≡_, _∙_}
+use mathlib.Core.Path.{ap₂, refl, sym, subst, ap, _≡_, _∙_}
 use Prim.Native.Nat.{ℕ, suc, _+_, _-_, _*_, _≤_, _<_}
 use native.Mathlib.Omega.{arith}
 use lib.ListN.{getD, length, length-append}
@@ -12,15 +12,17 @@ use Rattle.game.specs.Objection.{kindOf}
 use Rattle.game.specs.Account.{Account, OfStatement, OfObjection, verdictAccount, kindAccount, untold}
 use Rattle.game.specs.declared.Kind.{Kind}
 use Rattle.game.proofs.Verdict.{Within, length-bound}
-use Rattle.game.proofs.Account.{statement-once, objection-once}
+use Rattle.game.proofs.Account.{statement-once, statement-told, objection-once}
+use Rattle.game.proofs.HandedBook.{entry-told}
+use Rattle.game.proofs.UpTo.{chosen}
 use Rattle.register.specs.Number.{numberBytes}
 use Rattle.register.specs.Lines.{lineBytes, markByte}
 use Rattle.register.specs.declared.StatementLine.{StatementLine}
 use Rattle.register.specs.declared.ObjectionLine.{ObjectionLine}
 use Rattle.register.specs.declared.Line.{Line}
 use Rattle.register.specs.declared.Line.the-variants.{Statement, Objection}
-use Rattle.register.specs.Register.{Register, book, objectorsOf, targetsOf, bytes, marksOf}
-use Rattle.register.proofs.Order.{marks-counted}
+use Rattle.register.specs.Register.{Register, Valid, book, objectorsOf, targetsOf, bytes, marksOf}
+use Rattle.register.proofs.Order.{marks-counted, objectors-counted, register-in-order}
 use Rattle.listing.specs.Rows.{accountFields, statementRow, objectionRow, header}
 use Rattle.listing.specs.Listing.{IsListing, ObjectionsTold, listing, statementRows, objectionRows}
 use Rattle.register.proofs.Digits.{four-digits}
@@ -44,6 +46,32 @@ listing-once R l l′ a b =
         ext-getD untold (a .statements) (b .statements) (a .statement-each ∙ sym (b .statement-each))
         (λ x h. statement-once (book R) x (getD (a .statements) x untold) (getD (b .statements) x untold)
         (a .of-statement x (omega (arith, a .statement-each))) (b .of-statement x (omega (arith, a .statement-each))))
+
+-- And it has one.
+module _ (R : Register) (valid : Valid R) where
+  pub objections-there : (told : List Account) × ObjectionsTold R told
+  objections-there =
+      let (told, e, each) = chosen untold (λ k. OfObjection (book R) (getD (objectorsOf R) k 0) (getD (targetsOf R) k 0))
+      (length (R .objections)) (λ k h. entry-told (marksOf R) (objectorsOf R) (targetsOf R) (register-in-order R valid) k
+      (omega (arith, objectors-counted R valid))) in
+      (told, record { each = e; is = each })
+
+  pub listing-there : (l : List ℕ) × IsListing R l
+  unfolding bookOf
+  listing-there =
+      let (statements, e, each) = chosen untold (OfStatement (book R)) (length (R .statements))
+      (λ x h. statement-told (book R) x (omega (arith, marks-counted R valid))) in
+      let (objections, told) = objections-there in (
+        listing R statements objections,
+        record {
+          statements = statements;
+          objections = objections;
+          statement-each = e;
+          of-statement = each;
+          of-objections = told;
+          is = refl;
+        },
+      )
 
 -- With a length up to 1,023, and one more than that, the fields are short.
 verdict-short : (v : Verdict) → Within 1023 v → length (accountFields (verdictAccount v)) ≤ 11

@@ -7,8 +7,10 @@ use native.Mathlib.Omega.{arith}
 use lib.ListN.{length, getD, length-map}
 use Rattle.game.specs.Book.{Book, bookOf, Listed, Objects}
 use Rattle.game.specs.Label.{Verdict, is-open, stands, falls, Means}
-use Rattle.game.specs.Account.{labelNumber, lengthNumber, Told, Account, OfStatement, kindAccount, untold}
-use Rattle.game.specs.Objection.{OfKind, orIdle, kindOf}
+use Rattle.game.specs.Account.{labelNumber, lengthNumber, Account, OfStatement, kindAccount, untold}
+use Rattle.label_solve.specs.Labelled.{Told}
+use Rattle.game.specs.Objection.{OfKind, kindOf}
+use Rattle.game.proofs.Objection.{orIdle}
 use Rattle.game.specs.declared.Kind.{Kind}
 use Rattle.game.proofs.Verdict.{means-unique}
 use Rattle.game.proofs.Objection.{kind-exists}

@@ -7,7 +7,8 @@ use lib.ListN.{getD, length}
 use Rattle.game.specs.Book.{bookOf}
 use Rattle.game.specs.Label.{Verdict}
 use Rattle.game.specs.Account.{Account, verdictAccount, kindAccount}
-use Rattle.game.specs.Objection.{orIdle, kindOf}
+use Rattle.game.specs.Objection.{kindOf}
+use Rattle.game.proofs.Objection.{orIdle}
 use Rattle.game.specs.declared.Kind.{Kind}
 use Rattle.lists.specs.Handed.{Handed}
 use Rattle.label_solve.specs.Labelled.{Labelled}

@@ -1,5 +1,5 @@
--- What the code asks of lists before it works on them: the order that `game` names, and the limits of 01, by which its
--- rooms are sized. Whether lists that a caller hands over are such is left to `lists_check`.
+-- For the workings, not for callers: what the code asks of lists before it works on them, the order that `game` names, and the
+-- limits of 01, by which its rooms are sized. Whether lists that a caller hands over are such is left to `lists_check`.
 use mathlib.Core.List.{List}
 use Prim.Native.Nat.{ℕ, _≤_}
 use lib.ListN.{length}

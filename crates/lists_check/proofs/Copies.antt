@@ -5,7 +5,7 @@ use mathlib.Core.Path.{sym, _≡_, _∙_}
 use Prim.Native.Nat.{ℕ, _≤_, _<_}
 use native.Mathlib.Omega.{arith}
 use lib.ListN.{length, getD}
-use Rattle.game.specs.Find.{Found}
+use Rattle.game.specs.Questions.{Found}
 use Rattle.pair_repeat.proofs.Unpacked.{Copied}
 use Rattle.lists.specs.Refuses.{Same, Repeat}
 

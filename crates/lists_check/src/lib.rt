@@ -4,7 +4,7 @@ use lists::ListsFault;
 use pair_chain::place;
 ghost use mathlib.Core.Path.{_≡_};
 ghost use lib.ListN.{length};
-ghost use Rattle.game.specs.Find.{Found};
+ghost use Rattle.game.specs.Questions.{Found};
 ghost use Rattle.lists.specs.Handed.{Handed};
 ghost use Rattle.pair_repeat.specs.Entered.{Entered};
 ghost use Rattle.lists.specs.Refuses.{BadMark, BadPlace, Repeat};

@@ -16,26 +16,28 @@ use Rattle.register.specs.Reads.{Accepts}
 use Rattle.register.proofs.OneMore.{with-objection}
 use Rattle.register.proofs.Unique.{lines-formed}
 use Rattle.mend.specs.TextLines.{TextLine, good, spoiled, unended, LinesOf}
+use Rattle.mend.specs.Fate.{Fate, kept, unended-line, spoiled-line, second-statement, statement-limit, unknown-number}
+use Rattle.mend.specs.Fate.{repeat, objection-limit}
 use Rattle.mend.specs.Mended.{movedIf, withStatements, withObjections, settleStatement, settleObjection, fatesFrom, fates}
 use Rattle.mend.specs.Mended.{mended, listed}
 use Rattle.mend.proofs.TextLines.{lines-written, lines-once, written-lines}
 use Rattle.mend.proofs.Settling.{statement-case, StatementCase, second, beyond, new, objection-case, ObjectionCase}
-use Rattle.mend.proofs.Settling.{unknown, again, past, kept, settles-new, settles-kept}
-use Rattle.mend.proofs.Staying.{dropped-anyway}
+use Rattle.mend.proofs.Settling.{unknown, again, past, entered, settles-new, settles-kept}
+use Rattle.mend.proofs.Fate.{dropped-not-kept, moved-not-kept}
 
 -- the text lines of a register of these statements and objections, and that register
-abbrev good-lines : List StatementLine → List ObjectionLine → List TextLine
+abbrev pub good-lines : List StatementLine → List ObjectionLine → List TextLine
 good-lines A B = map good (map Statement A ++ map Objection B)
 
-abbrev more-objections : Register → List ObjectionLine → Register
+abbrev pub more-objections : Register → List ObjectionLine → Register
 more-objections R B = record { statements = R .statements; objections = R .objections ++ B }
 
 -- every line is kept in its place
-abbrev pub AllKept : List ℕ → List TextLine → Type 0
-AllKept fs ls = (k : ℕ) → k < length ls → getD fs k 0 ≡ 0
+abbrev pub AllKept : List Fate → List TextLine → Type 0
+AllKept fs ls = (k : ℕ) → k < length ls → getD fs k kept ≡ kept
 
-not-late : (late : Bool) → movedIf late 0 ≡ 0 → late ≡ false
-not-late true e = absurd (omega arith)
+not-late : (late : Bool) → movedIf late kept ≡ kept → late ≡ false
+not-late true e = absurd (moved-not-kept e)
 not-late false e = refl
 
 -- What the lines are then, from some statements and a register on; behind an objection line there are only objections.
@@ -48,14 +50,14 @@ pub record Lined (S : List StatementLine) (late : Bool) (R : Register) (ls : Lis
   pub unlate : late ≡ true → statements ≡ []
 
 statement-lined : (S : List StatementLine) (late : Bool) (R : Register) (st : StatementLine) (ls : List TextLine)
-    → movedIf late (settleStatement S st .0) ≡ 0 → Lined (settleStatement S st .1) late R ls
+    → movedIf late (settleStatement S st .0) ≡ kept → Lined (settleStatement S st .1) late R ls
     → Lined S late R (good (Statement st) ∷ ls)
 unfolding withStatements withObjections
 statement-lined S late R st ls f on = go (statement-case S st)
   where
     go : StatementCase S st → Lined S late R (good (Statement st) ∷ ls)
-    go (second i e) = absurd (omega (arith, sym (ap (λ u. movedIf late (u .0)) e) ∙ f, dropped-anyway late 5 (omega arith)))
-    go (beyond n l e) = absurd (omega (arith, sym (ap (λ u. movedIf late (u .0)) e) ∙ f, dropped-anyway late 6 (omega arith)))
+    go (second i e) = absurd (dropped-not-kept second-statement (sym (ap (λ u. movedIf late (u .0)) e) ∙ f))
+    go (beyond n l e) = absurd (dropped-not-kept statement-limit (sym (ap (λ u. movedIf late (u .0)) e) ∙ f))
     go (new n l e) = record {
       statements = st ∷ on .statements;
       objections = on .objections;
@@ -69,7 +71,7 @@ statement-lined S late R st ls f on = go (statement-case S st)
         clash q = let z : _≡_ {A = ℕ} 0 1 = cc in omega arith
 
 objection-lined : (S : List StatementLine) (late : Bool) (R : Register) (o : ObjectionLine) (ls : List TextLine)
-    → settleObjection R o .0 ≡ 0 → Lined S true (settleObjection R o .1) ls → Lined S late R (good (Objection o) ∷ ls)
+    → settleObjection R o .0 ≡ kept → Lined S true (settleObjection R o .1) ls → Lined S late R (good (Objection o) ∷ ls)
 unfolding withStatements withObjections
 objection-lined S late R o ls f on = go (objection-case R o)
   where
@@ -77,10 +79,10 @@ objection-lined S late R o ls f on = go (objection-case R o)
     none = on .unlate refl
 
     go : ObjectionCase R o → Lined S late R (good (Objection o) ∷ ls)
-    go (unknown n e) = absurd (omega (arith, ap (λ u. u .0) e, f))
-    go (again k h e) = absurd (omega (arith, ap (λ u. u .0) e, f))
-    go (past k h l e) = absurd (omega (arith, ap (λ u. u .0) e, f))
-    go (kept k h l e) = record {
+    go (unknown n e) = absurd (dropped-not-kept unknown-number (sym (ap (λ u. u .0) e) ∙ f))
+    go (again k h e) = absurd (dropped-not-kept repeat (sym (ap (λ u. u .0) e) ∙ f))
+    go (past k h l e) = absurd (dropped-not-kept objection-limit (sym (ap (λ u. u .0) e) ∙ f))
+    go (entered k h l e) = record {
       statements = [];
       objections = o ∷ on .objections;
       are = ap (λ u. good (Objection o) ∷ u) (on .are ∙ ap (λ u. good-lines u (on .objections)) none);
@@ -108,8 +110,8 @@ lined (good (Statement st) ∷ ls) S late R f =
     (lined ls (settleStatement S st .1) late R (λ k h. f (suc k) (omega arith)))
 lined (good (Objection o) ∷ ls) S late R f =
     objection-lined S late R o ls (f 0 (omega arith)) (lined ls S true (settleObjection R o .1) (λ k h. f (suc k) (omega arith)))
-lined (spoiled ∷ ls) S late R f = absurd (omega (arith, f 0 (omega arith)))
-lined (unended ∷ ls) S late R f = absurd (omega (arith, f 0 (omega arith)))
+lined (spoiled ∷ ls) S late R f = absurd (dropped-not-kept spoiled-line (f 0 (omega arith)))
+lined (unended ∷ ls) S late R f = absurd (dropped-not-kept unended-line (f 0 (omega arith)))
 
 -- "An accepted register comes back byte for byte": where every line is kept, what is written is the text.
 pub kept-text : (s : List ℕ) (ls : List TextLine) → LinesOf s ls → AllKept (fates ls) ls → written (mended ls) ≡ s
@@ -129,7 +131,7 @@ module _ (S : List StatementLine) (st : StatementLine) (A : List StatementLine) 
   names : numbers (bare (S ++ (st ∷ A))) ≡ numbersOf S ++ (st .number ∷ numbersOf A)
   names = map-append (λ (t : StatementLine). t .number) S (st ∷ A)
 
-  keeps-statement : settleStatement S st ≡ (0, S ++ (st ∷ []))
+  keeps-statement : settleStatement S st ≡ (kept, S ++ (st ∷ []))
   keeps-statement = settles-new S st none (omega (arith, v .few-statements, length-append S (st ∷ A)))
     where
       count : length (numbersOf S) ≡ length S
@@ -160,7 +162,7 @@ module _ (R : Register) (o : ObjectionLine) (B : List ObjectionLine) (v : Valid 
     field-new : getD (map f (R .objections ++ (o ∷ B))) m 0 ≡ f o
     field-new = ap (λ u. getD u m 0) field ∙ getD-at (map f (R .objections)) (f o) (map f B) 0 m (length-map (R .objections) f)
 
-  keeps-objection : settleObjection R o ≡ (0, with-objection R o)
+  keeps-objection : settleObjection R o ≡ (kept, with-objection R o)
   keeps-objection =
       let c : length (R .objections ++ (o ∷ B)) ≡ m + suc (length B) = length-append (R .objections) (o ∷ B) in
       let (y, x) = v .known m (omega arith) in
@@ -186,7 +188,7 @@ objections-kept (o ∷ B) S late R v (suc k) h =
     (sym (ap (λ u. u .1) (keeps-objection R o B v))) (subst (λ u. Valid (record { statements = R .statements; objections = u }))
     (sym (append-assoc (R .objections) (o ∷ []) B)) v)) k (le-of-suc-le-suc h)
 
-lines-kept : (A : List StatementLine) (S : List StatementLine) (B : List ObjectionLine) (R : Register) → Valid (bare (S ++ A))
+pub lines-kept : (A : List StatementLine) (S : List StatementLine) (B : List ObjectionLine) (R : Register) → Valid (bare (S ++ A))
     → Valid (more-objections R B) → AllKept (fatesFrom S false R (good-lines A B)) (good-lines A B)
 unfolding fatesFrom
 lines-kept [] S B R v w k h = objections-kept B S false R w k h
@@ -196,7 +198,7 @@ lines-kept (st ∷ A) S B R v w (suc k) h =
     (subst (λ T. Valid (bare (T ++ A))) (sym (ap (λ u. u .1) (keeps-statement S st A v)))
     (subst (λ u. Valid (bare u)) (sym (append-assoc S (st ∷ []) A)) v)) w k (le-of-suc-le-suc h)
 
-statements-are : (A : List StatementLine) (S : List StatementLine) (B : List ObjectionLine) → Valid (bare (S ++ A))
+pub statements-are : (A : List StatementLine) (S : List StatementLine) (B : List ObjectionLine) → Valid (bare (S ++ A))
     → withStatements S (good-lines A B) ≡ S ++ A
 unfolding withStatements
 statements-are [] S [] v = sym (append-nil S)
@@ -207,8 +209,20 @@ statements-are (st ∷ A) S B v =
     (subst (λ u. Valid (bare u)) (sym (append-assoc S (st ∷ []) A)) v))
     ∙ ap (λ u. u .1 ++ A) (keeps-statement S st A v) ∙ append-assoc S (st ∷ []) A
 
+pub objections-are : (A : List StatementLine) (B : List ObjectionLine) (R : Register) → Valid (more-objections R B)
+    → withObjections R (good-lines A B) ≡ more-objections R B
+unfolding withObjections
+objections-are [] [] R v = ap (λ u. record { statements = R .statements; objections = u }) (sym (append-nil (R .objections)))
+objections-are [] (o ∷ B) R v =
+    objections-are [] B (settleObjection R o .1) (subst (λ Q. Valid (more-objections Q B))
+    (sym (ap (λ u. u .1) (keeps-objection R o B v))) (subst (λ u. Valid (record { statements = R .statements; objections = u }))
+    (sym (append-assoc (R .objections) (o ∷ []) B)) v))
+    ∙ ap (λ u. more-objections (u .1) B) (keeps-objection R o B v)
+    ∙ ap (λ u. record { statements = R .statements; objections = u }) (append-assoc (R .objections) (o ∷ []) B)
+objections-are (st ∷ A) B R v = objections-are A B R v
+
 -- the statements of a register in order are one
-statements-alone : (R : Register) → Valid R → Valid (bare (R .statements))
+pub statements-alone : (R : Register) → Valid R → Valid (bare (R .statements))
 statements-alone R v = record {
   few-statements = v .few-statements;
   few-objections = omega arith;

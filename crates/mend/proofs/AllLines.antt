@@ -11,6 +11,7 @@ use lib.ListN.{length, getD}
 use Rattle.register.specs.declared.StatementLine.{StatementLine}
 use Rattle.register.specs.Register.{Register}
 use Rattle.mend.specs.TextLines.{TextLine, spoiled}
+use Rattle.mend.specs.Fate.{Fate, kept}
 use Rattle.mend.specs.Mended.{fatesFrom, withStatement, lateAfter, withObjection, fateOf, withStatements, withObjections}
 
 -- as many fates as lines
@@ -20,16 +21,18 @@ unfolding fatesFrom
 fates-counted [] S late R = refl
 fates-counted (l ∷ ls) S late R = ap suc (fates-counted ls (withStatement S l) (lateAfter late l) (withObjection R l))
 
-module _ (P : TextLine → ℕ → Type 0) where
+module _ (P : TextLine → Fate → Type 0) where
   -- some line has the property, with its fate
-  pub Some : List TextLine → List ℕ → Type 0
-  Some ls fs = (k : ℕ) × (k < length ls) × P (getD ls k spoiled) (getD fs k 0)
+  pub Some : List TextLine → List Fate → Type 0
+  Some ls fs = (k : ℕ) × (k < length ls) × P (getD ls k spoiled) (getD fs k kept)
 
-  pub some-at : (ls : List TextLine) (fs : List ℕ) → Some ls fs → (k : ℕ) × (k < length ls) × P (getD ls k spoiled) (getD fs k 0)
+  pub some-at : (ls : List TextLine) (fs : List Fate) → Some ls fs → (k : ℕ) × (k < length ls)
+      × P (getD ls k spoiled) (getD fs k kept)
   unfolding Some
   some-at ls fs w = w
 
-  pub some-by : (ls : List TextLine) (fs : List ℕ) (k : ℕ) → k < length ls → P (getD ls k spoiled) (getD fs k 0) → Some ls fs
+  pub some-by : (ls : List TextLine) (fs : List Fate) (k : ℕ) → k < length ls → P (getD ls k spoiled) (getD fs k kept)
+      → Some ls fs
   unfolding Some
   some-by ls fs k h p = (k, h, p)
 
@@ -37,7 +40,7 @@ module _ (P : TextLine → ℕ → Type 0) where
   pub each : (I : Register → Type 0) → ((R : Register) (l : TextLine) → I R → I (withObjection R l))
       → ((S : List StatementLine) (late : Bool) (R : Register) (l : TextLine) → I R → P l (fateOf S late R l))
       → (ls : List TextLine) (S : List StatementLine) (late : Bool) (R : Register) → I R → (k : ℕ) → k < length ls
-      → P (getD ls k spoiled) (getD (fatesFrom S late R ls) k 0)
+      → P (getD ls k spoiled) (getD (fatesFrom S late R ls) k kept)
   unfolding fatesFrom
   each I on one [] S late R i k h = absurd (not-suc-le-zero h)
   each I on one (l ∷ ls) S late R i zero h = one S late R l i

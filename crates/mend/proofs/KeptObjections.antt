@@ -3,18 +3,21 @@ use mathlib.Core.Bool.{Bool, false}
 use mathlib.Core.List.{List, [], _∷_}
 use mathlib.Core.Logic.{inl, inr, _⊎_}
 use mathlib.Core.Path.{sym, refl, subst, _≡_, _∙_}
-use Prim.Native.Nat.{ℕ, _<_}
+use Prim.Native.Nat.{ℕ}
 use native.Mathlib.Nat.{not-suc-le-zero}
 use native.Mathlib.Omega.{arith}
 use lib.ListN.{length-append, length, getD}
 use Rattle.register.specs.declared.StatementLine.{StatementLine}
 use Rattle.register.specs.declared.ObjectionLine.{ObjectionLine}
 use Rattle.register.specs.declared.Line.the-variants.{Statement, Objection}
-use Rattle.register.specs.Register.{Register, Has}
+use Rattle.register.specs.Register.{Register, Has, bare}
 use Rattle.register.proofs.OneMore.{with-objection, old-or-new, Old, New}
 use Rattle.mend.specs.TextLines.{TextLine, good, spoiled, unended, ObjectionAt}
-use Rattle.mend.specs.Mended.{withObjection, fateOf, settleObjection, mended, fates, listed}
-use Rattle.mend.proofs.Settling.{objection-case, ObjectionCase, unknown, again, past, kept}
+use Rattle.mend.specs.Fate.{Cause, Fate, kept, dropped, unknown-number, repeat, objection-limit}
+use Rattle.mend.specs.Mended.{withObjection, withObjections, withStatements, fateOf, fatesFrom, settleObjection, mended}
+use Rattle.mend.specs.Mended.{fates}
+use Rattle.mend.proofs.Settling.{objection-case, ObjectionCase, unknown, again, past, entered}
+use Rattle.mend.proofs.Fate.{dropped-not-kept}
 use Rattle.mend.proofs.AllLines.{comes-by, Some, some-at, comes, some-by}
 
 module _ (y x : ℕ) where
@@ -41,9 +44,9 @@ module _ (y x : ℕ) where
         go (inr (e, p, q)) = (length (R .objections), omega (arith, length-append (R .objections) (o ∷ [])), p ∙ a, q ∙ b)
 
   -- the line is this objection, and is kept
-  abbrev Keeps : TextLine → ℕ → Type 0
+  abbrev Keeps : TextLine → Fate → Type 0
   Keeps (good (Statement st)) f = ⊥
-  Keeps (good (Objection o)) f = (o .objector ≡ y) × (o .target ≡ x) × (f ≡ 0)
+  Keeps (good (Objection o)) f = (o .objector ≡ y) × (o .target ≡ x) × (f ≡ kept)
   Keeps spoiled f = ⊥
   Keeps unended f = ⊥
 
@@ -54,7 +57,7 @@ module _ (y x : ℕ) where
   comes-here S late R unended w = inl w
   comes-here S late R (good (Objection o)) w = go (objection-case R o) w
     where
-      here : Has R y x ⊎ ((o .objector ≡ y) × (o .target ≡ x)) → Has R y x ⊎ Keeps (good (Objection o)) 0
+      here : Has R y x ⊎ ((o .objector ≡ y) × (o .target ≡ x)) → Has R y x ⊎ Keeps (good (Objection o)) kept
       here (inl w) = inl w
       here (inr (a, b)) = inr (a, b, refl)
 
@@ -62,7 +65,7 @@ module _ (y x : ℕ) where
       go (unknown n e) = rw e (λ w. inl w)
       go (again k h e) = rw e (λ w. inl w)
       go (past k h l e) = rw e (λ w. inl w)
-      go (kept k h l e) = rw e (λ w. here (more-cases R o w))
+      go (entered k h l e) = rw e (λ w. here (more-cases R o w))
 
   goes-on : (S : List StatementLine) (late : Bool) (R : Register) (l : TextLine) → Has R y x ⊎ Keeps l (fateOf S late R l)
       → Has (withObjection R l) y x
@@ -74,44 +77,56 @@ module _ (y x : ℕ) where
   goes-on S late R unended (inr w) = absurd w
   goes-on S late R (good (Objection o)) w = go (objection-case R o) w
     where
-      old : (f : ℕ) → 0 < f → Has R y x ⊎ Keeps (good (Objection o)) f → Has R y x
-      old f h (inl w) = w
-      old f h (inr (a, b, e)) = absurd (omega arith)
+      old : (cause : Cause) → Has R y x ⊎ Keeps (good (Objection o)) (dropped cause) → Has R y x
+      old cause (inl w) = w
+      old cause (inr (a, b, e)) = absurd (dropped-not-kept cause e)
 
-      here : Has R y x ⊎ Keeps (good (Objection o)) 0 → Has R y x ⊎ ((o .objector ≡ y) × (o .target ≡ x))
+      here : Has R y x ⊎ Keeps (good (Objection o)) kept → Has R y x ⊎ ((o .objector ≡ y) × (o .target ≡ x))
       here (inl w) = inl w
       here (inr (a, b, e)) = inr (a, b)
 
       go : ObjectionCase R o → Has R y x ⊎ Keeps (good (Objection o)) (settleObjection R o .0) → Has (settleObjection R o .1) y x
-      go (unknown n e) = rw e (old 7 (omega arith))
-      go (again k h e) = rw e (old 8 (omega arith))
-      go (past k h l e) = rw e (old 9 (omega arith))
-      go (kept k h l e) = rw e (λ w. more R o (here w))
+      go (unknown n e) = rw e (old unknown-number)
+      go (again k h e) = rw e (old repeat)
+      go (past k h l e) = rw e (old objection-limit)
+      go (entered k h l e) = rw e (λ w. more R o (here w))
 
-  as-line : (l : TextLine) (f : ℕ) → Keeps l f → (o : ObjectionLine) × (l ≡ good (Objection o)) × (o .objector ≡ y)
-      × (o .target ≡ x) × (f ≡ 0)
+  as-line : (l : TextLine) (f : Fate) → Keeps l f → (o : ObjectionLine) × (l ≡ good (Objection o)) × (o .objector ≡ y)
+      × (o .target ≡ x) × (f ≡ kept)
   as-line (good (Objection o)) f (a, b, e) = (o, refl, a, b, e)
   as-line (good (Statement st)) f w = absurd w
   as-line spoiled f w = absurd w
   as-line unended f w = absurd w
 
+-- after some lines more, a register without objections has one exactly if a line with it is kept
+module _ (ls : List TextLine) (S : List StatementLine) (late : Bool) (B : List StatementLine) where
+  pub kept-from : (y x : ℕ) → Has (withObjections (bare B) ls) y x → (k : ℕ) × (o : ObjectionLine) × ObjectionAt ls k o
+      × (o .objector ≡ y) × (o .target ≡ x) × (getD (fatesFrom S late (bare B) ls) k kept ≡ kept)
+  kept-from y x w =
+      go (comes-by (Keeps y x) (λ S R. Has R y x) (comes-here y x) ls S late (bare B) w)
+    where
+      go : Has (bare B) y x ⊎ Some (Keeps y x) ls (fatesFrom S late (bare B) ls) → (k : ℕ) × (o : ObjectionLine)
+          × ObjectionAt ls k o
+          × (o .objector ≡ y) × (o .target ≡ x) × (getD (fatesFrom S late (bare B) ls) k kept ≡ kept)
+      go (inl (k, h, a, b)) = absurd (not-suc-le-zero h)
+      go (inr w) =
+          let (k, h, m) = some-at (Keeps y x) ls (fatesFrom S late (bare B) ls) w in
+          let (o, e, a, b, f) = as-line y x (getD ls k spoiled) (getD (fatesFrom S late (bare B) ls) k kept) m in
+          (k, o, (h, e), a, b, f)
+
+  pub from-kept : (k : ℕ) (o : ObjectionLine) → ObjectionAt ls k o → getD (fatesFrom S late (bare B) ls) k kept ≡ kept
+      → Has (withObjections (bare B) ls) (o .objector) (o .target)
+  from-kept k o (h, e) f =
+      comes (Keeps (o .objector) (o .target)) (λ S R. Has R (o .objector) (o .target)) (goes-on (o .objector) (o .target)) ls S
+      late
+      (bare B) (some-by (Keeps (o .objector) (o .target)) ls (fatesFrom S late (bare B) ls) k h
+      (subst (λ l. Keeps (o .objector) (o .target) l (getD (fatesFrom S late (bare B) ls) k kept)) (sym e) (refl, refl, f)))
+
 -- the mended register has an objection exactly if a line with it is kept
 pub kept-line : (ls : List TextLine) (y x : ℕ) → Has (mended ls) y x → (k : ℕ) × (o : ObjectionLine) × ObjectionAt ls k o
-    × (o .objector ≡ y) × (o .target ≡ x) × (getD (fates ls) k 0 ≡ 0)
-kept-line ls y x w =
-    go (comes-by (Keeps y x) (λ S R. Has R y x) (comes-here y x) ls [] false (listed ls) w)
-  where
-    go : Has (listed ls) y x ⊎ Some (Keeps y x) ls (fates ls) → (k : ℕ) × (o : ObjectionLine) × ObjectionAt ls k o
-        × (o .objector ≡ y) × (o .target ≡ x) × (getD (fates ls) k 0 ≡ 0)
-    go (inl (k, h, a, b)) = absurd (not-suc-le-zero h)
-    go (inr w) =
-        let (k, h, m) = some-at (Keeps y x) ls (fates ls) w in
-        let (o, e, a, b, f) = as-line y x (getD ls k spoiled) (getD (fates ls) k 0) m in (k, o, (h, e), a, b, f)
+    × (o .objector ≡ y) × (o .target ≡ x) × (getD (fates ls) k kept ≡ kept)
+kept-line ls = kept-from ls [] false (withStatements [] ls)
 
-pub line-kept : (ls : List TextLine) (k : ℕ) (o : ObjectionLine) → ObjectionAt ls k o → getD (fates ls) k 0 ≡ 0
+pub line-kept : (ls : List TextLine) (k : ℕ) (o : ObjectionLine) → ObjectionAt ls k o → getD (fates ls) k kept ≡ kept
     → Has (mended ls) (o .objector) (o .target)
-line-kept ls k o (h, e) f =
-    comes (Keeps (o .objector) (o .target)) (λ S R. Has R (o .objector) (o .target)) (goes-on (o .objector) (o .target)) ls []
-    false
-    (listed ls) (some-by (Keeps (o .objector) (o .target)) ls (fates ls) k h
-    (subst (λ l. Keeps (o .objector) (o .target) l (getD (fates ls) k 0)) (sym e) (refl, refl, f)))
+line-kept ls = from-kept ls [] false (withStatements [] ls)

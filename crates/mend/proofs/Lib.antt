@@ -1,10 +1,15 @@
 pub mod Accepted
 pub mod AllLines
+pub mod Causes
+pub mod Fate
+pub mod IssuedLines
 pub mod KeptObjections
 pub mod Marks
+pub mod PastLimit
 pub mod Report
 pub mod ReportRow
 pub mod Reported
+pub mod Restorable
 pub mod Restored
 pub mod Settling
 pub mod Staying

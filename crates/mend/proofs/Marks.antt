@@ -19,13 +19,15 @@ use Rattle.register.specs.declared.ObjectionLine.{ObjectionLine}
 use Rattle.register.specs.declared.Line.the-variants.{Statement, Objection}
 use Rattle.register.specs.Register.{Issued, bare, Register, numbers, marksOf}
 use Rattle.mend.specs.TextLines.{TextLine, good, spoiled, unended, ObjectionAt, LinesOf}
+use Rattle.mend.specs.Fate.{Fate, kept, dropped, second-statement, statement-limit, unknown-number, repeat}
+use Rattle.mend.specs.Fate.{objection-limit, stays, fateNumber}
 use Rattle.mend.specs.Mended.{unreadIf, movedIf, settleStatement, settleObjection, withStatement, fateOf, withObjection}
 use Rattle.mend.specs.Mended.{withStatements, fatesFrom, withObjections, fates, mended, listed}
-use Rattle.mend.specs.Staying.{stays, UnreadBy}
+use Rattle.mend.specs.Staying.{UnreadBy}
 use Rattle.mend.proofs.Settling.{statement-case, StatementCase, second, beyond, new, objection-case, ObjectionCase}
-use Rattle.mend.proofs.Settling.{unknown, again, past, kept}
+use Rattle.mend.proofs.Settling.{unknown, again, past, entered}
 use Rattle.mend.proofs.Valid.{mended-valid}
-use Rattle.mend.proofs.Staying.{dropped-anyway, kept-stays, numbers-after, numbers-settled}
+use Rattle.mend.proofs.Staying.{kept-stays, numbers-after, numbers-settled}
 use Rattle.mend.proofs.AllLines.{Some, comes-by, comes, each, some-at, remains, some-by}
 use Rattle.register.proofs.Order.{numbers-counted}
 
@@ -110,42 +112,48 @@ more-cases (t ∷ S) st v (inr w) = go (more-cases S st v w)
     go (inl w) = inl (inr w)
     go (inr w) = inr w
 
+-- an objection with this fate marks its target unread
+abbrev TargetMarked : Fate → Type 0
+TargetMarked f = (f ≡ dropped unknown-number) ⊎ (f ≡ dropped objection-limit)
+
 -- a line with this fate marks v unread
-abbrev StatementMarks : ℕ → TextLine → ℕ → Type 0
-StatementMarks v (good (Statement st)) f = (st .number ≡ v) × ((T (stays f) × (st .mark ≡ Unread)) ⊎ (f ≡ 5))
+abbrev StatementMarks : ℕ → TextLine → Fate → Type 0
+StatementMarks v (good (Statement st)) f =
+    (st .number ≡ v) × ((T (stays f) × (st .mark ≡ Unread)) ⊎ (f ≡ dropped second-statement))
 StatementMarks v (good (Objection o)) f = ⊥
 StatementMarks v spoiled f = ⊥
 StatementMarks v unended f = ⊥
 
-abbrev ObjectionMarks : ℕ → TextLine → ℕ → Type 0
+abbrev ObjectionMarks : ℕ → TextLine → Fate → Type 0
 ObjectionMarks v (good (Statement st)) f = ⊥
-ObjectionMarks v (good (Objection o)) f = (o .target ≡ v) × ((f ≡ 7) ⊎ (f ≡ 9))
+ObjectionMarks v (good (Objection o)) f = (o .target ≡ v) × TargetMarked f
 ObjectionMarks v spoiled f = ⊥
 ObjectionMarks v unended f = ⊥
 
-kept-not-second : (late : Bool) → movedIf late 0 ≡ 5 → ⊥
-kept-not-second true e = omega arith
-kept-not-second false e = omega arith
+kept-not-second : (late : Bool) → movedIf late kept ≡ dropped second-statement → ⊥
+kept-not-second true e = omega (arith, ap (fateNumber 0) e)
+kept-not-second false e = omega (arith, ap (fateNumber 0) e)
 
 -- One statement line.
 module _ (S : List StatementLine) (st : StatementLine) (late : Bool) (v : ℕ) where
-  abbrev Marks : ℕ → Type 0
-  Marks f = (st .number ≡ v) × ((T (stays f) × (st .mark ≡ Unread)) ⊎ (f ≡ 5))
+  abbrev Marks : Fate → Type 0
+  Marks f = (st .number ≡ v) × ((T (stays f) × (st .mark ≡ Unread)) ⊎ (f ≡ dropped second-statement))
 
   settled-marked : Marked (settleStatement S st .1) v → Marked S v ⊎ Marks (movedIf late (settleStatement S st .0))
   settled-marked = go (statement-case S st)
     where
       go : StatementCase S st → Marked (settleStatement S st .1) v → Marked S v ⊎ Marks (movedIf late (settleStatement S st .0))
-      go (second i e) = rw (e, dropped-anyway late 5 (omega arith)) (λ w. by (unread-cases (st .number) v S w))
+      go (second i e) = rw e (λ w. by (unread-cases (st .number) v S w))
         where
-          by : Marked S v ⊎ (st .number ≡ v) → Marked S v ⊎ Marks 5
+          by : Marked S v ⊎ (st .number ≡ v) → Marked S v ⊎ Marks (dropped second-statement)
           by (inl w) = inl w
           by (inr q) = inr (q, inr refl)
       go (beyond n l e) = rw e (λ w. inl w)
       go (new n l e) = rw (e, kept-stays late) (λ w. by (more-cases S st v w))
         where
           by : Marked S v ⊎ ((st .number ≡ v) × (st .mark ≡ Unread))
-              → Marked S v ⊎ ((st .number ≡ v) × ((T true × (st .mark ≡ Unread)) ⊎ (movedIf late 0 ≡ 5)))
+              → Marked S v
+              ⊎ ((st .number ≡ v) × ((T true × (st .mark ≡ Unread)) ⊎ (movedIf late kept ≡ dropped second-statement)))
           by (inl w) = inl w
           by (inr (q, u)) = inr (q, inl (tt, u))
 
@@ -153,67 +161,67 @@ module _ (S : List StatementLine) (st : StatementLine) (late : Bool) (v : ℕ) w
   settled-marks = go (statement-case S st)
     where
       go : StatementCase S st → Marked S v ⊎ Marks (movedIf late (settleStatement S st .0)) → Marked (settleStatement S st .1) v
-      go (second i e) = rw (e, dropped-anyway late 5 (omega arith)) by
+      go (second i e) = rw e by
         where
-          by : Marked S v ⊎ Marks 5 → Marked (map (unreadIf (st .number)) S) v
+          by : Marked S v ⊎ Marks (dropped second-statement) → Marked (map (unreadIf (st .number)) S) v
           by (inl w) = unread-old (st .number) v S w
           by (inr (q, inl (t, u))) = absurd t
           by (inr (q, inr f)) = subst (Marked (map (unreadIf (st .number)) S)) q (unread-listed (st .number) S i)
-      go (beyond n l e) = rw (e, dropped-anyway late 6 (omega arith)) by
+      go (beyond n l e) = rw e by
         where
-          by : Marked S v ⊎ Marks 6 → Marked S v
+          by : Marked S v ⊎ Marks (dropped statement-limit) → Marked S v
           by (inl w) = w
           by (inr (q, inl (t, u))) = absurd t
-          by (inr (q, inr f)) = absurd (omega (arith, f))
+          by (inr (q, inr f)) = absurd (omega (arith, ap (fateNumber 0) f))
       go (new n l e) = rw (e, kept-stays late) by
         where
-          by : Marked S v ⊎ ((st .number ≡ v) × ((T true × (st .mark ≡ Unread)) ⊎ (movedIf late 0 ≡ 5))) → Marked (S ++ (st ∷ []))
-              v
+          by : Marked S v ⊎ ((st .number ≡ v) × ((T true × (st .mark ≡ Unread)) ⊎ (movedIf late kept ≡ dropped second-statement)))
+              → Marked (S ++ (st ∷ [])) v
           by (inl w) = more-old S st v w
           by (inr (q, inl (t, u))) = more-new S st v q u
           by (inr (q, inr f)) = absurd (kept-not-second late f)
 
 -- One objection line.
 module _ (R : Register) (o : ObjectionLine) (v : ℕ) where
-  abbrev Marks′ : ℕ → Type 0
-  Marks′ f = (o .target ≡ v) × ((f ≡ 7) ⊎ (f ≡ 9))
+  abbrev Marks′ : Fate → Type 0
+  Marks′ f = (o .target ≡ v) × TargetMarked f
 
   settled-marked′ : Marked (settleObjection R o .1 .statements) v → Marked (R .statements) v ⊎ Marks′ (settleObjection R o .0)
   settled-marked′ = go (objection-case R o)
     where
-      by : (f : ℕ) → (f ≡ 7) ⊎ (f ≡ 9) → Marked (R .statements) v ⊎ (o .target ≡ v) → Marked (R .statements) v ⊎ Marks′ f
+      by : (f : Fate) → TargetMarked f → Marked (R .statements) v ⊎ (o .target ≡ v) → Marked (R .statements) v ⊎ Marks′ f
       by f d (inl w) = inl w
       by f d (inr q) = inr (q, d)
 
       go : ObjectionCase R o → Marked (settleObjection R o .1 .statements) v
           → Marked (R .statements) v ⊎ Marks′ (settleObjection R o .0)
-      go (unknown n e) = rw e (λ w. by 7 (inl refl) (unread-cases (o .target) v (R .statements) w))
+      go (unknown n e) = rw e (λ w. by (dropped unknown-number) (inl refl) (unread-cases (o .target) v (R .statements) w))
       go (again k h e) = rw e (λ w. inl w)
-      go (past k h l e) = rw e (λ w. by 9 (inr refl) (unread-cases (o .target) v (R .statements) w))
-      go (kept k h l e) = rw e (λ w. inl w)
+      go (past k h l e) = rw e (λ w. by (dropped objection-limit) (inr refl) (unread-cases (o .target) v (R .statements) w))
+      go (entered k h l e) = rw e (λ w. inl w)
 
   settled-marks′ : Issued R v → Marked (R .statements) v ⊎ Marks′ (settleObjection R o .0)
       → Marked (settleObjection R o .1 .statements) v
   settled-marks′ i = go (objection-case R o)
     where
-      by : (f : ℕ) → Marked (R .statements) v ⊎ Marks′ f → Marked (map (unreadIf (o .target)) (R .statements)) v
+      by : (f : Fate) → Marked (R .statements) v ⊎ Marks′ f → Marked (map (unreadIf (o .target)) (R .statements)) v
       by f (inl w) = unread-old (o .target) v (R .statements) w
       by f (inr (q, d)) = rw q (unread-listed v (R .statements) i)
 
-      none : (f : ℕ) → ((f ≡ 7) ⊎ (f ≡ 9) → ⊥) → Marked (R .statements) v ⊎ Marks′ f → Marked (R .statements) v
+      none : (f : Fate) → (TargetMarked f → ⊥) → Marked (R .statements) v ⊎ Marks′ f → Marked (R .statements) v
       none f d (inl w) = w
       none f d (inr (q, e)) = absurd (d e)
 
-      neither : (f : ℕ) → (f ≡ 7 → ⊥) → (f ≡ 9 → ⊥) → (f ≡ 7) ⊎ (f ≡ 9) → ⊥
-      neither f a b (inl e) = a e
-      neither f a b (inr e) = b e
+      neither : (f : Fate) → (fateNumber 0 f ≡ 7 → ⊥) → (fateNumber 0 f ≡ 9 → ⊥) → TargetMarked f → ⊥
+      neither f a b (inl e) = a (ap (fateNumber 0) e)
+      neither f a b (inr e) = b (ap (fateNumber 0) e)
 
       go : ObjectionCase R o → Marked (R .statements) v ⊎ Marks′ (settleObjection R o .0)
           → Marked (settleObjection R o .1 .statements) v
-      go (unknown n e) = rw e (by 7)
-      go (again k h e) = rw e (none 8 (neither 8 (λ q. omega (arith, q)) (λ q. omega (arith, q))))
-      go (past k h l e) = rw e (by 9)
-      go (kept k h l e) = rw e (none 0 (neither 0 (λ q. omega (arith, q)) (λ q. omega (arith, q))))
+      go (unknown n e) = rw e (by (dropped unknown-number))
+      go (again k h e) = rw e (none (dropped repeat) (neither (dropped repeat) (λ q. omega (arith, q)) (λ q. omega (arith, q))))
+      go (past k h l e) = rw e (by (dropped objection-limit))
+      go (entered k h l e) = rw e (none kept (neither kept (λ q. omega (arith, q)) (λ q. omega (arith, q))))
 
 -- One line of any kind.
 only-left : {P : Type 0} → P ⊎ ⊥ → P
@@ -287,17 +295,17 @@ module _ (v : ℕ) where
       go (inl q) = line-marks′ S late R v i′ l (inl (q i′))
       go (inr p) = line-marks′ S late R v i′ l (inr p)
 
--- a fate is 7 exactly if not both numbers are issued
+-- a line is dropped for an unknown number exactly if not both numbers are issued
 pub unknown-exactly : (ls : List TextLine) (k : ℕ) (o : ObjectionLine) → ObjectionAt ls k o
-    → (getD (fates ls) k 0 ≡ 7) ↔ (¬ (Issued (mended ls) (o .objector) × Issued (mended ls) (o .target)))
+    → (getD (fates ls) k kept ≡ dropped unknown-number) ↔ (¬ (Issued (mended ls) (o .objector) × Issued (mended ls) (o .target)))
 unknown-exactly ls k o (h, e) =
     each Why (λ R. numbers R ≡ numbers (mended ls)) (λ R l i. numbers-after R l ∙ i) one ls [] false (listed ls)
     (sym (numbers-settled ls (listed ls))) k h o e
   where
-    Why : TextLine → ℕ → Type 0
+    Why : TextLine → Fate → Type 0
     Why l f =
         (o : ObjectionLine) → l ≡ good (Objection o)
-        → (f ≡ 7) ↔ (¬ (Issued (mended ls) (o .objector) × Issued (mended ls) (o .target)))
+        → (f ≡ dropped unknown-number) ↔ (¬ (Issued (mended ls) (o .objector) × Issued (mended ls) (o .target)))
 
     one : (S : List StatementLine) (late : Bool) (R : Register) (l : TextLine) → numbers R ≡ numbers (mended ls)
         → Why l (fateOf S late R l)
@@ -312,23 +320,29 @@ unknown-exactly ls k o (h, e) =
         forth : Issued R (p .objector) × Issued R (p .target) → Issued (mended ls) (p .objector) × Issued (mended ls) (p .target)
         forth (y, x) = (issued-same R (mended ls) i (p .objector) y, issued-same R (mended ls) i (p .target) x)
 
-        go : ObjectionCase R p → (settleObjection R p .0 ≡ 7)
+        -- of both known numbers, another fate is given
+        none : Issued R (p .objector) × Issued R (p .target) → (fateNumber 0 (settleObjection R p .0) ≡ 7 → ⊥)
+            → (settleObjection R p .0 ≡ dropped unknown-number)
+            ↔ (¬ (Issued (mended ls) (p .objector) × Issued (mended ls) (p .target)))
+        none k other = (λ f w. other (ap (fateNumber 0) f), λ f. absurd (f (forth k)))
+
+        go : ObjectionCase R p → (settleObjection R p .0 ≡ dropped unknown-number)
             ↔ (¬ (Issued (mended ls) (p .objector) × Issued (mended ls) (p .target)))
         go (unknown n e) = (λ f w. n (back (p .objector) (w .0), back (p .target) (w .1)), λ f. ap (λ u. u .0) e)
-        go (again k h e) = (λ f w. omega (arith, ap (λ u. u .0) e, f), λ f. absurd (f (forth k)))
-        go (past k h l e) = (λ f w. omega (arith, ap (λ u. u .0) e, f), λ f. absurd (f (forth k)))
-        go (kept k h l e) = (λ f w. omega (arith, ap (λ u. u .0) e, f), λ f. absurd (f (forth k)))
+        go (again k h e) = none k (λ q. omega (arith, ap (λ u. fateNumber 0 (u .0)) e, q))
+        go (past k h l e) = none k (λ q. omega (arith, ap (λ u. fateNumber 0 (u .0)) e, q))
+        go (entered k h l e) = none k (λ q. omega (arith, ap (λ u. fateNumber 0 (u .0)) e, q))
 
 -- what such a line is
-as-statement : (v : ℕ) (l : TextLine) (f : ℕ) → StatementMarks v l f → (st : StatementLine) × (l ≡ good (Statement st))
-    × (st .number ≡ v) × ((T (stays f) × (st .mark ≡ Unread)) ⊎ (f ≡ 5))
+as-statement : (v : ℕ) (l : TextLine) (f : Fate) → StatementMarks v l f → (st : StatementLine) × (l ≡ good (Statement st))
+    × (st .number ≡ v) × ((T (stays f) × (st .mark ≡ Unread)) ⊎ (f ≡ dropped second-statement))
 as-statement v (good (Statement st)) f (p, d) = (st, refl, p, d)
 as-statement v (good (Objection o)) f w = absurd w
 as-statement v spoiled f w = absurd w
 as-statement v unended f w = absurd w
 
-as-objection : (v : ℕ) (l : TextLine) (f : ℕ) → ObjectionMarks v l f → (o : ObjectionLine) × (l ≡ good (Objection o))
-    × (o .target ≡ v) × ((f ≡ 7) ⊎ (f ≡ 9))
+as-objection : (v : ℕ) (l : TextLine) (f : Fate) → ObjectionMarks v l f → (o : ObjectionLine) × (l ≡ good (Objection o))
+    × (o .target ≡ v) × TargetMarked f
 as-objection v (good (Objection o)) f (p, d) = (o, refl, p, d)
 as-objection v (good (Statement st)) f w = absurd w
 as-objection v spoiled f w = absurd w
@@ -347,16 +361,17 @@ module _ (s : List ℕ) (ls : List TextLine) (p : LinesOf s ls) (x : ℕ) (h : x
   why : Marked (mended ls .statements) v → UnreadBy ls v
   why w = go (objections-marked ls (listed ls) v w)
     where
-      by-statement : (k : ℕ) × (k < length ls) × StatementMarks v (getD ls k spoiled) (getD (fates ls) k 0) → UnreadBy ls v
-      by-statement (k, h, m) = let (st, e, q, d) = as-statement v (getD ls k spoiled) (getD (fates ls) k 0) m in
+      by-statement : (k : ℕ) × (k < length ls) × StatementMarks v (getD ls k spoiled) (getD (fates ls) k kept) → UnreadBy ls v
+      by-statement (k, h, m) = let (st, e, q, d) = as-statement v (getD ls k spoiled) (getD (fates ls) k kept) m in
           inl (k, st, (h, e), q, d)
 
-      by-objection : (k : ℕ) × (k < length ls) × ObjectionMarks v (getD ls k spoiled) (getD (fates ls) k 0) → UnreadBy ls v
-      by-objection (k, h, m) = let (o, e, q, d) = as-objection v (getD ls k spoiled) (getD (fates ls) k 0) m in
+      by-objection : (k : ℕ) × (k < length ls) × ObjectionMarks v (getD ls k spoiled) (getD (fates ls) k kept) → UnreadBy ls v
+      by-objection (k, h, m) = let (o, e, q, d) = as-objection v (getD ls k spoiled) (getD (fates ls) k kept) m in
           inr (k, o, (h, e), q, told o (h, e) q d)
         where
-          told : (o : ObjectionLine) → ObjectionAt ls k o → o .target ≡ v → (getD (fates ls) k 0 ≡ 7) ⊎ (getD (fates ls) k 0 ≡ 9)
-              → ((getD (fates ls) k 0 ≡ 7) × (¬ Issued (mended ls) (o .objector))) ⊎ (getD (fates ls) k 0 ≡ 9)
+          told : (o : ObjectionLine) → ObjectionAt ls k o → o .target ≡ v → TargetMarked (getD (fates ls) k kept)
+              → ((getD (fates ls) k kept ≡ dropped unknown-number) × (¬ Issued (mended ls) (o .objector)))
+              ⊎ (getD (fates ls) k kept ≡ dropped objection-limit)
           told o at q (inl f) = inl (f, λ y. unknown-exactly ls k o at .0 f (y, subst (Issued (mended ls)) (sym q) there))
           told o at q (inr f) = inr f
 
@@ -368,14 +383,16 @@ module _ (s : List ℕ) (ls : List TextLine) (p : LinesOf s ls) (x : ℕ) (h : x
   because (inl (k, st, (h, e), q, d)) =
       remains (ObjectionMarks v) (MarkedIfIssued v) (still-marked v) ls [] false (listed ls)
       (λ i. statements-mark ls (listed ls) v (some-by (StatementMarks v) ls (fates ls) k h
-      (subst (λ l. StatementMarks v l (getD (fates ls) k 0)) (sym e) (q, d)))) there
+      (subst (λ l. StatementMarks v l (getD (fates ls) k kept)) (sym e) (q, d)))) there
   because (inr (k, o, (h, e), q, d)) =
       comes (ObjectionMarks v) (MarkedIfIssued v) (still-marked v) ls [] false (listed ls)
-      (some-by (ObjectionMarks v) ls (fates ls) k h (subst (λ l. ObjectionMarks v l (getD (fates ls) k 0)) (sym e) (q, told d)))
+      (some-by (ObjectionMarks v) ls (fates ls) k h
+      (subst (λ l. ObjectionMarks v l (getD (fates ls) k kept)) (sym e) (q, told d)))
       there
     where
-      told : ((getD (fates ls) k 0 ≡ 7) × (¬ Issued (mended ls) (o .objector))) ⊎ (getD (fates ls) k 0 ≡ 9)
-          → (getD (fates ls) k 0 ≡ 7) ⊎ (getD (fates ls) k 0 ≡ 9)
+      told : ((getD (fates ls) k kept ≡ dropped unknown-number) × (¬ Issued (mended ls) (o .objector)))
+          ⊎ (getD (fates ls) k kept ≡ dropped objection-limit)
+          → TargetMarked (getD (fates ls) k kept)
       told (inl (f, n)) = inl f
       told (inr f) = inr f
 

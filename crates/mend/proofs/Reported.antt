@@ -17,7 +17,6 @@ use Rattle.mend.proofs.Accepted.{AllKept, kept-text, accepted-kept}
 use Rattle.mend.specs.Report.{reportOf}
 use Rattle.mend.proofs.Report.{no-report, report-empty, report-small}
 use Rattle.mend.proofs.TextLines.{few-lines}
-use Rattle.mend.proofs.Staying.{fates-low}
 
 module _ (ls : List TextLine) where
   counted : length (fates ls) ≡ length ls
@@ -53,6 +52,6 @@ report-short s ls h p =
     let c : length (fates ls) ≡ length ls = fates-counted ls [] false (listed ls) in
     omega (
       arith,
-      report-small (fates ls) (omega (arith, few-lines s ls p)) (λ k l. fates-low ls k (omega arith)),
+      report-small (fates ls) (omega (arith, few-lines s ls p)),
       few-lines s ls p,
     )

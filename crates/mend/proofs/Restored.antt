@@ -2,7 +2,7 @@
 -- what went. And there is such a book for every choice of marks and objections.
 use mathlib.Core.Bool.{Bool, cond, false, true, not, _&&_}
 use mathlib.Core.List.{List, map, [], _∷_, _++_}
-use mathlib.Core.Logic.{inl, inr, _⊎_, _↔_}
+use mathlib.Core.Logic.{inl, inr, ⊎-elim, _⊎_, _↔_}
 use mathlib.Core.Path.{sym, ap, refl, subst, _≡_, _∙_}
 use Prim.Native.Nat.{ℕ, suc, zero, _+_, _-_, _≤_, _<_}
 use native.Mathlib.Nat.{not-suc-le-zero, le-of-suc-le-suc}
@@ -26,8 +26,9 @@ use Rattle.register.specs.Register.{targetNumbers, placeOf, Issued}
 use Rattle.register.proofs.Order.{objectors-counted, number-there, place-first, numbers-counted, marks-counted, mapped}
 use Rattle.register.proofs.Settled.{issued?, below?, same?, Settles}
 use Rattle.mend.specs.TextLines.{TextLine, StatementAt, good, spoiled, unended, LinesOf, ObjectionAt}
+use Rattle.mend.specs.Fate.{Fate, kept, stays}
 use Rattle.mend.specs.Mended.{mended, fates}
-use Rattle.mend.specs.Staying.{statementsStaying, stays, statementIn, UnreadBy}
+use Rattle.mend.specs.Staying.{statementsStaying, statementIn, UnreadBy}
 use Rattle.mend.specs.Restored.{Restorable, Restored}
 use Rattle.mend.proofs.Valid.{mended-valid}
 use Rattle.mend.proofs.Staying.{statements-that-stay}
@@ -73,8 +74,9 @@ module _ (R : Register) (v : Valid R) where
   )
 
 -- a statement line that stays is a line of the text
-staying-line : (ls : List TextLine) (fs : List ℕ) (i : ℕ) → i < length (statementsStaying ls fs) → (k : ℕ) × (st : StatementLine)
-    × StatementAt ls k st × T (stays (getD fs k 0))
+pub staying-line : (ls : List TextLine) (fs : List Fate) (i : ℕ) → i < length (statementsStaying ls fs) → (k : ℕ)
+    × (st : StatementLine)
+    × StatementAt ls k st × T (stays (getD fs k kept))
     × (getD (map (λ (t : StatementLine). t .number) (statementsStaying ls fs)) i 0 ≡ st .number)
     × (getD (map (λ (t : StatementLine). markNumber (t .mark)) (statementsStaying ls fs)) i 0 ≡ markNumber (st .mark))
 unfolding statementsStaying
@@ -84,14 +86,14 @@ staying-line (l ∷ ls) (f ∷ fs) i h = go (stays f) refl l refl i h (staying-l
   where
     Line : List StatementLine → ℕ → Type 0
     Line T′ i =
-        (k : ℕ) × (st : StatementLine) × StatementAt (l ∷ ls) k st × T (stays (getD (f ∷ fs) k 0))
+        (k : ℕ) × (st : StatementLine) × StatementAt (l ∷ ls) k st × T (stays (getD (f ∷ fs) k kept))
         × (getD (map (λ (t : StatementLine). t .number) T′) i 0 ≡ st .number)
         × (getD (map (λ (t : StatementLine). markNumber (t .mark)) T′) i 0 ≡ markNumber (st .mark))
 
     Later : Type 0
     Later =
         (i : ℕ) → i < length (statementsStaying ls fs) → (k : ℕ) × (st : StatementLine)
-        × StatementAt ls k st × T (stays (getD fs k 0))
+        × StatementAt ls k st × T (stays (getD fs k kept))
         × (getD (map (λ (t : StatementLine). t .number) (statementsStaying ls fs)) i 0 ≡ st .number)
         × (getD (map (λ (t : StatementLine). markNumber (t .mark)) (statementsStaying ls fs)) i 0 ≡ markNumber (st .mark))
 
@@ -158,7 +160,7 @@ module _ (s : List ℕ) (ls : List TextLine) (p : LinesOf s ls) (ok : Restorable
       Put = (k : ℕ) × (o : ObjectionLine) × ObjectionAt ls k o × (o .objector ≡ getD names y 0) × (o .target ≡ getD names x 0)
 
       old : (k : ℕ) (o : ObjectionLine) → ObjectionAt ls k o → o .objector ≡ getD names y 0 → o .target ≡ getD names x 0
-          → getD (fates ls) k 0 ≡ 0 → Dec (y < n) → Objects (book (mended ls)) y x
+          → getD (fates ls) k kept ≡ kept → Dec (y < n) → Objects (book (mended ls)) y x
       old k o at a b f (yes l) =
           has-objects (mended ls) valid y x l h′ (subst (λ u. Has (mended ls) u (getD (numbers (mended ls)) x 0))
           (a ∙ listed-name y l) (subst (λ u. Has (mended ls) (o .objector) u) (b ∙ listed-name x h′) (line-kept ls k o at f)))
@@ -173,21 +175,20 @@ module _ (s : List ℕ) (ls : List TextLine) (p : LinesOf s ls) (ok : Restorable
           issued i j = valid .known i j .0
 
       put : Put → Objects (book (mended ls)) y x
-      put (k, o, at, a, b) = go (ok k (at .0))
+      put (k, o, at, a, b) =
+          ⊎-elim (λ f. old k o at a b f (decLt y n)) (λ w. absurd (none (w .0) (w .1) (w .2))) (ok k (at .0))
         where
-          go : (getD (fates ls) k 0 ≡ 0) ⊎ ((o : ObjectionLine) × ObjectionAt ls k o × (¬ Issued (mended ls) (o .objector))
-              × Issued (mended ls) (o .target)) → Objects (book (mended ls)) y x
-          go (inl f) = old k o at a b f (decLt y n)
-          go (inr (o′, at′, u, w)) =
-              let e : o′ ≡ o = cc in
+          none : (p : ObjectionLine) → ObjectionAt ls k p → ¬ Issued (mended ls) (p .objector) → ⊥
+          none p at′ u =
+              let e : p ≡ o = cc in
               let u′ : ¬ Issued (mended ls) (o .objector) = subst (λ q. ¬ Issued (mended ls) (q .objector)) e u in
-              absurd (no-cause x h′ read (inr (
+              no-cause x h′ read (inr (
                 k,
                 o,
                 at,
                 b ∙ listed-name x h′,
                 inl (unknown-exactly ls k o at .1 (λ w. u′ (w .0)), u′),
-              )))
+              ))
 
   stays-read : (x : ℕ) → Listed (book (mended ls)) x → Read (book (mended ls)) x → Read F x
   unfolding n
@@ -311,7 +312,7 @@ unknowns R [] = record {
 unknowns R (l ∷ ls) = with-line R l ls (unknowns R ls) l refl
 
 -- the line is an objection of y against x
-objects-at : TextLine → ℕ → ℕ → Bool
+unfoldable pub objects-at : TextLine → ℕ → ℕ → Bool
 objects-at (good (Statement st)) y x = false
 objects-at (good (Objection o)) y x = eqb (o .objector) y && eqb (o .target) x
 objects-at spoiled y x = false
@@ -339,6 +340,20 @@ line-objects (good (Objection o)) y x = (
         (subst T (sym (eq-eqb (o .objector) y (ap (λ (q : ObjectionLine). q .objector) z ∙ a))) tt)
         (subst T (sym (eq-eqb (o .target) x (ap (λ (q : ObjectionLine). q .target) z ∙ b))) tt)
 
+-- some line of the text is an objection of y against x
+unfoldable pub objects-in : List TextLine → ℕ → ℕ → Bool
+objects-in ls y x = any (length ls) (λ k. objects-at (getD ls k spoiled) y x)
+
+pub lines-object : (ls : List TextLine) (y x : ℕ) → T (objects-in ls y x) ↔
+    ((k : ℕ) × (o : ObjectionLine) × ObjectionAt ls k o × (o .objector ≡ y) × (o .target ≡ x))
+unfolding objects-in
+lines-object ls y x = (
+  λ t. let (k, h, q) = any-at (length ls) (λ k. objects-at (getD ls k spoiled) y x) t in
+      let (o, e, a, b) = line-objects (getD ls k spoiled) y x .0 q in (k, o, (h, e), a, b),
+  λ w. any-of (length ls) (λ k. objects-at (getD ls k spoiled) y x) (w .0) (w .2 .0)
+      (line-objects (getD ls (w .0) spoiled) y x .1 (w .1, w .2 .1, w .3, w .4)),
+)
+
 module _ (ls : List TextLine) (marks : ℕ → Bool) (against : ℕ → ℕ → Bool) where
   abbrev size : ℕ
   size = length (numbers (mended ls))
@@ -350,9 +365,7 @@ module _ (ls : List TextLine) (marks : ℕ → Bool) (against : ℕ → ℕ → 
   own-mark x = eqb (getD (map (λ (st : StatementLine). markNumber (st .mark)) (statementsStaying ls (fates ls))) x 0) 1
 
   put-back : ℕ → ℕ → Bool
-  put-back y x =
-      any (length ls)
-      (λ k. objects-at (getD ls k spoiled) (getD (numbers (mended ls) ++ new) y 0) (getD (numbers (mended ls) ++ new) x 0))
+  put-back y x = objects-in ls (getD (numbers (mended ls) ++ new) y 0) (getD (numbers (mended ls) ++ new) x 0)
 
   restored : Book
   restored = record {
@@ -376,24 +389,10 @@ module _ (ls : List TextLine) (marks : ℕ → Bool) (against : ℕ → ℕ → 
       new-all = unknowns (mended ls) ls .every;
       size = refl;
       marks = λ x h. rw (lt-ltb x size h) refl;
-      objections = λ y x z h. rw (lt-ltb x size h) (to y x, from y x);
+      objections =
+          λ y x z h. rw (lt-ltb x size h)
+          (lines-object ls (getD (numbers (mended ls) ++ new) y 0) (getD (numbers (mended ls) ++ new) x 0));
     },
     (λ i h. rw (le-ltb (size + i) size (omega arith)) (ap marks (let e : (size + i) - size ≡ i = omega arith in e))),
     λ y i h. rw (le-ltb (size + i) size (omega arith)) (ap (against y) (let e : (size + i) - size ≡ i = omega arith in e)),
   )
-    where
-      name : ℕ → ℕ
-      name y = getD (numbers (mended ls) ++ new) y 0
-
-      Line : ℕ → ℕ → Type 0
-      Line y x = (k : ℕ) × (o : ObjectionLine) × ObjectionAt ls k o × (o .objector ≡ name y) × (o .target ≡ name x)
-
-      to : (y x : ℕ) → T (put-back y x) → Line y x
-      to y x t =
-          let (k, h, q) = any-at (length ls) (λ k. objects-at (getD ls k spoiled) (name y) (name x)) t in
-          let (o, e, a, b) = line-objects (getD ls k spoiled) (name y) (name x) .0 q in (k, o, (h, e), a, b)
-
-      from : (y x : ℕ) → Line y x → T (put-back y x)
-      from y x (k, o, (h, e), a, b) =
-          any-of (length ls) (λ k. objects-at (getD ls k spoiled) (name y) (name x)) k h
-          (line-objects (getD ls k spoiled) (name y) (name x) .1 (o, e, a, b))

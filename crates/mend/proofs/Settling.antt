@@ -16,6 +16,7 @@ use Rattle.register.specs.declared.ObjectionLine.{ObjectionLine}
 use Rattle.register.specs.Register.{Register, Issued, numbers, Has, objectorNumbers, targetNumbers, bare}
 use Rattle.register.proofs.OneMore.{with-objection}
 use Rattle.register.proofs.Settled.{issued?, has?}
+use Rattle.mend.specs.Fate.{kept, dropped, second-statement, statement-limit, unknown-number, repeat, objection-limit}
 use Rattle.mend.specs.Mended.{issued, has, settleStatement, unreadIf, settleObjection, unread}
 
 -- a test that says whether something is so
@@ -76,22 +77,25 @@ module _ (R : Register) where
   no-repeat o = not-so (Has R (o .objector) (o .target)) (has R o) (has-is o)
 
 module _ (S : List StatementLine) (st : StatementLine) where
-  pub settles-second : Issued (bare S) (st .number) → settleStatement S st ≡ (5, map (unreadIf (st .number)) S)
+  pub settles-second : Issued (bare S) (st .number)
+      → settleStatement S st ≡ (dropped second-statement, map (unreadIf (st .number)) S)
   unfolding settleStatement
   settles-second i = rw (is-issued (bare S) (st .number) i) refl
 
-  pub settles-beyond : (¬ Issued (bare S) (st .number)) → 1024 ≤ length S → settleStatement S st ≡ (6, S)
+  pub settles-beyond : (¬ Issued (bare S) (st .number)) → 1024 ≤ length S → settleStatement S st ≡ (dropped statement-limit, S)
   unfolding settleStatement
   settles-beyond n l = rw (is-unknown (bare S) (st .number) n, le-leb 1024 (length S) l) refl
 
-  pub settles-new : (¬ Issued (bare S) (st .number)) → length S < 1024 → settleStatement S st ≡ (0, S ++ (st ∷ []))
+  pub settles-new : (¬ Issued (bare S) (st .number)) → length S < 1024 → settleStatement S st ≡ (kept, S ++ (st ∷ []))
   unfolding settleStatement
   settles-new n l = rw (is-unknown (bare S) (st .number) n, lt-leb 1024 (length S) l) refl
 
 pub data StatementCase (S : List StatementLine) (st : StatementLine) : Type 0 where
-  second : Issued (bare S) (st .number) → settleStatement S st ≡ (5, map (unreadIf (st .number)) S) → StatementCase S st
-  beyond : (¬ Issued (bare S) (st .number)) → 1024 ≤ length S → settleStatement S st ≡ (6, S) → StatementCase S st
-  new : (¬ Issued (bare S) (st .number)) → length S < 1024 → settleStatement S st ≡ (0, S ++ (st ∷ [])) → StatementCase S st
+  second : Issued (bare S) (st .number) → settleStatement S st ≡ (dropped second-statement, map (unreadIf (st .number)) S)
+      → StatementCase S st
+  beyond : (¬ Issued (bare S) (st .number)) → 1024 ≤ length S → settleStatement S st ≡ (dropped statement-limit, S)
+      → StatementCase S st
+  new : (¬ Issued (bare S) (st .number)) → length S < 1024 → settleStatement S st ≡ (kept, S ++ (st ∷ [])) → StatementCase S st
 
 pub statement-case : (S : List StatementLine) (st : StatementLine) → StatementCase S st
 statement-case S st = go (issued? (bare S) (st .number)) (decLe 1024 (length S))
@@ -105,41 +109,41 @@ module _ (R : Register) (o : ObjectionLine) where
   abbrev Known : Type 0
   Known = Issued R (o .objector) × Issued R (o .target)
 
-  pub settles-unknown : (¬ Known) → settleObjection R o ≡ (7, unread (o .target) R)
+  pub settles-unknown : (¬ Known) → settleObjection R o ≡ (dropped unknown-number, unread (o .target) R)
   unfolding settleObjection
   settles-unknown n = go (issued? R (o .objector)) (issued? R (o .target))
     where
       go : Issued R (o .objector) ⊎ (¬ Issued R (o .objector)) → Issued R (o .target) ⊎ (¬ Issued R (o .target))
-          → settleObjection R o ≡ (7, unread (o .target) R)
+          → settleObjection R o ≡ (dropped unknown-number, unread (o .target) R)
       go (inl y) (inl x) = absurd (n (y, x))
       go (inl y) (inr x) = rw (is-issued R (o .objector) y, is-unknown R (o .target) x) refl
       go (inr y) q = rw (is-unknown R (o .objector) y) refl
 
-  pub settles-repeat : Known → Has R (o .objector) (o .target) → settleObjection R o ≡ (8, R)
+  pub settles-repeat : Known → Has R (o .objector) (o .target) → settleObjection R o ≡ (dropped repeat, R)
   unfolding settleObjection
   settles-repeat (y, x) h = rw (is-issued R (o .objector) y, is-issued R (o .target) x, is-repeat R o h) refl
 
   pub settles-past : Known → (¬ Has R (o .objector) (o .target)) → 4096 ≤ length (R .objections)
-      → settleObjection R o ≡ (9, unread (o .target) R)
+      → settleObjection R o ≡ (dropped objection-limit, unread (o .target) R)
   unfolding settleObjection
   settles-past (y, x) h l =
       rw (is-issued R (o .objector) y, is-issued R (o .target) x, no-repeat R o h, le-leb 4096 (length (R .objections)) l) refl
 
   pub settles-kept : Known → (¬ Has R (o .objector) (o .target)) → length (R .objections) < 4096
-      → settleObjection R o ≡ (0, with-objection R o)
+      → settleObjection R o ≡ (kept, with-objection R o)
   unfolding settleObjection
   settles-kept (y, x) h l =
       rw (is-issued R (o .objector) y, is-issued R (o .target) x, no-repeat R o h, lt-leb 4096 (length (R .objections)) l) refl
 
 pub data ObjectionCase (R : Register) (o : ObjectionLine) : Type 0 where
-  unknown : (¬ (Issued R (o .objector) × Issued R (o .target))) → settleObjection R o ≡ (7, unread (o .target) R) → ObjectionCase
-      R o
-  again : Issued R (o .objector) × Issued R (o .target) → Has R (o .objector) (o .target) → settleObjection R o ≡ (8, R)
-      → ObjectionCase R o
+  unknown : (¬ (Issued R (o .objector) × Issued R (o .target)))
+      → settleObjection R o ≡ (dropped unknown-number, unread (o .target) R) → ObjectionCase R o
+  again : Issued R (o .objector) × Issued R (o .target) → Has R (o .objector) (o .target)
+      → settleObjection R o ≡ (dropped repeat, R) → ObjectionCase R o
   past : Issued R (o .objector) × Issued R (o .target) → (¬ Has R (o .objector) (o .target)) → 4096 ≤ length (R .objections)
-      → settleObjection R o ≡ (9, unread (o .target) R) → ObjectionCase R o
-  kept : Issued R (o .objector) × Issued R (o .target) → (¬ Has R (o .objector) (o .target)) → length (R .objections) < 4096
-      → settleObjection R o ≡ (0, with-objection R o) → ObjectionCase R o
+      → settleObjection R o ≡ (dropped objection-limit, unread (o .target) R) → ObjectionCase R o
+  entered : Issued R (o .objector) × Issued R (o .target) → (¬ Has R (o .objector) (o .target)) → length (R .objections) < 4096
+      → settleObjection R o ≡ (kept, with-objection R o) → ObjectionCase R o
 
 pub objection-case : (R : Register) (o : ObjectionLine) → ObjectionCase R o
 objection-case R o =
@@ -152,4 +156,4 @@ objection-case R o =
     go (inl y) (inr x) h d = unknown (λ k. x (k .1)) (settles-unknown R o (λ k. x (k .1)))
     go (inl y) (inl x) (inl h) d = again (y, x) h (settles-repeat R o (y, x) h)
     go (inl y) (inl x) (inr h) (yes l) = past (y, x) h l (settles-past R o (y, x) h l)
-    go (inl y) (inl x) (inr h) (no l) = kept (y, x) h (omega arith) (settles-kept R o (y, x) h (omega arith))
+    go (inl y) (inl x) (inr h) (no l) = entered (y, x) h (omega arith) (settles-kept R o (y, x) h (omega arith))

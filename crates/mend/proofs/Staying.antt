@@ -3,31 +3,22 @@
 use mathlib.Core.Bool.{Bool, true, false, cond}
 use mathlib.Core.List.{List, map, append-nil, map-append, append-assoc, [], _∷_, _++_}
 use mathlib.Core.Path.{refl, _≡_, sym, ap, _∙_}
-use Prim.Native.Nat.{ℕ, _<_}
-use native.Mathlib.Omega.{arith}
-use lib.Dec.{eqb}
-use lib.ListN.{length, getD}
-use borrow.Author.Tests.{ne-eqb}
+use Prim.Native.Nat.{ℕ}
 use Rattle.register.specs.declared.StatementLine.{StatementLine}
-use Rattle.register.specs.declared.ObjectionLine.{ObjectionLine}
 use Rattle.register.specs.declared.Line.the-variants.{Statement, Objection}
 use Rattle.register.specs.Register.{Register, numbers, bare}
 use Rattle.register.proofs.OneMore.{with-objection}
 use Rattle.mend.specs.TextLines.{TextLine, good, spoiled, unended}
+use Rattle.mend.specs.Fate.{kept, stays}
 use Rattle.mend.specs.Mended.{movedIf, withStatements, fatesFrom, settleStatement, unreadIf, settleObjection, lateAfter}
-use Rattle.mend.specs.Mended.{withObjections, unread, withObjection, mended, fates, listed, fateOf}
-use Rattle.mend.specs.Staying.{stays, statementsStaying, objectionsStaying, goodLines, goodFates}
+use Rattle.mend.specs.Mended.{withObjections, unread, withObjection, mended, fates, listed}
+use Rattle.mend.specs.Staying.{statementsStaying, objectionsStaying, goodLines, goodFates}
 use Rattle.mend.proofs.Settling.{statement-case, StatementCase, second, beyond, new, objection-case, ObjectionCase}
-use Rattle.mend.proofs.Settling.{unknown, again, past, kept}
+use Rattle.mend.proofs.Settling.{unknown, again, past, entered}
 use Rattle.mend.proofs.Valid.{numbers-stay}
-use Rattle.mend.proofs.AllLines.{each}
 
--- a fate that drops is not changed by being late, and a late line that is kept stays
-pub dropped-anyway : (late : Bool) (f : ℕ) → 0 < f → movedIf late f ≡ f
-dropped-anyway true f h = rw (ne-eqb f 0 (λ e. omega arith)) refl
-dropped-anyway false f h = refl
-
-pub kept-stays : (late : Bool) → stays (movedIf late 0) ≡ true
+-- a late line that is kept stays
+pub kept-stays : (late : Bool) → stays (movedIf late kept) ≡ true
 kept-stays true = refl
 kept-stays false = refl
 
@@ -38,7 +29,7 @@ nothing : {A : Type 0} (b : Bool) → _≡_ {A = List A} (cond b [] []) []
 nothing true = refl
 nothing false = refl
 
-statements-from : (ls : List TextLine) (S : List StatementLine) (late : Bool) (R : Register)
+pub statements-from : (ls : List TextLine) (S : List StatementLine) (late : Bool) (R : Register)
     → numbersOf (withStatements S ls) ≡ numbersOf S ++ numbersOf (statementsStaying ls (fatesFrom S late R ls))
 unfolding withStatements fatesFrom statementsStaying
 statements-from [] S late R = sym (append-nil (numbersOf S))
@@ -50,11 +41,11 @@ statements-from (good (Statement st) ∷ ls) S late R = go (λ S. statements-fro
         ++ numbersOf (cond (stays (movedIf late (settleStatement S st .0))) (st ∷ []) []
         ++ statementsStaying ls (fatesFrom (settleStatement S st .1) late R ls))
     go on (second i e) =
-        rw (e, dropped-anyway late 5 (omega arith))
+        rw e
         (on (map (unreadIf (st .number)) S)
         ∙ ap (λ u. u ++ numbersOf (statementsStaying ls (fatesFrom (map (unreadIf (st .number)) S) late R ls)))
         (numbers-stay (st .number) S))
-    go on (beyond n l e) = rw (e, dropped-anyway late 6 (omega arith)) (on S)
+    go on (beyond n l e) = rw e (on S)
     go on (new n l e) =
         rw (e, kept-stays late)
         (on (S ++ (st ∷ []))
@@ -68,7 +59,7 @@ statements-from (good (Objection o) ∷ ls) S late R =
 statements-from (spoiled ∷ ls) S late R = statements-from ls S (lateAfter late spoiled) R
 statements-from (unended ∷ ls) S late R = statements-from ls S (lateAfter late unended) R
 
-objections-from : (ls : List TextLine) (S : List StatementLine) (late : Bool) (R : Register)
+pub objections-from : (ls : List TextLine) (S : List StatementLine) (late : Bool) (R : Register)
     → withObjections R ls .objections ≡ R .objections ++ objectionsStaying ls (fatesFrom S late R ls)
 unfolding withObjections fatesFrom objectionsStaying
 objections-from [] S late R = sym (append-nil (R .objections))
@@ -85,7 +76,7 @@ objections-from (good (Objection o) ∷ ls) S late R = go (λ R. objections-from
     go on (unknown n e) = rw e (on (unread (o .target) R))
     go on (again k h e) = rw e (on R)
     go on (past k h l e) = rw e (on (unread (o .target) R))
-    go on (kept k h l e) =
+    go on (entered k h l e) =
         rw e (on (with-objection R o)
         ∙ append-assoc (R .objections) (o ∷ []) (objectionsStaying ls (fatesFrom S true (with-objection R o) ls)))
 objections-from (spoiled ∷ ls) S late R = objections-from ls S (lateAfter late spoiled) R
@@ -100,7 +91,7 @@ numbers-after R (good (Objection o)) = go (objection-case R o)
     go (unknown n e) = rw e (numbers-stay (o .target) (R .statements))
     go (again k h e) = rw e refl
     go (past k h l e) = rw e (numbers-stay (o .target) (R .statements))
-    go (kept k h l e) = rw e refl
+    go (entered k h l e) = rw e refl
 numbers-after R spoiled = refl
 numbers-after R unended = refl
 
@@ -115,35 +106,6 @@ statements-that-stay ls = numbers-settled ls (listed ls) ∙ statements-from ls 
 
 pub objections-that-stay : (ls : List TextLine) → mended ls .objections ≡ objectionsStaying ls (fates ls)
 objections-that-stay ls = objections-from ls [] false (listed ls)
-
--- a fate is one of 0, 2, 3, .. 9
-pub fates-low : (ls : List TextLine) (k : ℕ) → k < length ls → getD (fates ls) k 0 < 10
-fates-low ls = each (λ l f. f < 10) (λ R. Unit {0}) (λ R l i. tt) one ls [] false (listed ls) tt
-  where
-    late-low : (late : Bool) (f : ℕ) → f < 10 → movedIf late f < 10
-    late-low false f h = h
-    late-low true f h = go (eqb f 0)
-      where
-        go : (b : Bool) → cond b 4 f < 10
-        go true = omega arith
-        go false = h
-
-    statement-low : (S : List StatementLine) (st : StatementLine) → StatementCase S st → settleStatement S st .0 < 10
-    statement-low S st (second i e) = rw e (omega arith)
-    statement-low S st (beyond n l e) = rw e (omega arith)
-    statement-low S st (new n l e) = rw e (omega arith)
-
-    objection-low : (R : Register) (o : ObjectionLine) → ObjectionCase R o → settleObjection R o .0 < 10
-    objection-low R o (unknown n e) = rw e (omega arith)
-    objection-low R o (again k h e) = rw e (omega arith)
-    objection-low R o (past k h l e) = rw e (omega arith)
-    objection-low R o (kept k h l e) = rw e (omega arith)
-
-    one : (S : List StatementLine) (late : Bool) (R : Register) (l : TextLine) → Unit {0} → fateOf S late R l < 10
-    one S late R (good (Statement st)) i = late-low late (settleStatement S st .0) (statement-low S st (statement-case S st))
-    one S late R (good (Objection o)) i = objection-low R o (objection-case R o)
-    one S late R spoiled i = omega arith
-    one S late R unended i = omega arith
 
 -- "Spoiled lines and an unended last line go, with no other effect": what is kept, and the fates of the good lines, are as if
 -- those lines were not there.

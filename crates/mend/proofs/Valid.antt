@@ -21,7 +21,7 @@ use Rattle.mend.specs.TextLines.{TextLine, LinesOf, good, spoiled, unend
 use Rattle.mend.specs.Mended.{unreadIf, unread, settleStatement, settleObjection, withStatements, withObjections, mended}
 use Rattle.mend.specs.Mended.{listed}
 use Rattle.mend.proofs.Settling.{statement-case, StatementCase, second, beyond, new, objection-case, ObjectionCase}
-use Rattle.mend.proofs.Settling.{unknown, again, past, kept}
+use Rattle.mend.proofs.Settling.{unknown, again, past, entered}
 
 -- a mark that changes leaves the number, and the size of the line
 pub number-stays : (n : ℕ) (st : StatementLine) → unreadIf n st .number ≡ st .number
@@ -87,7 +87,7 @@ objection-valid R o v = go (objection-case R o)
     go (unknown n e) = rw e (valid-unread (o .target) R v)
     go (again k h e) = rw e v
     go (past k h l e) = rw e (valid-unread (o .target) R v)
-    go (kept k h l e) = rw e (valid-objection R o v l (k .0) (k .1) h)
+    go (entered k h l e) = rw e (valid-objection R o v l (k .0) (k .1) h)
 
 pub statements-valid : (s : List ℕ) (ls : List TextLine) (S : List StatementLine) → LinesOf s ls → Valid (bare S)
     → Valid (bare (withStatements S ls))
@@ -140,7 +140,7 @@ objection-size R o = go (objection-case R o)
     go (unknown n e) = rw e (omega (arith, same))
     go (again k h e) = rw e (omega arith)
     go (past k h l e) = rw e (omega (arith, same))
-    go (kept k h l e) =
+    go (entered k h l e) =
         rw e (omega (arith, ap length (written-objection R o), length-append (written R) (lineBytes (Objection o))))
 
 statements-size : (s : List ℕ) (ls : List TextLine) (S : List StatementLine) → LinesOf s ls

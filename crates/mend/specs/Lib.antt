@@ -1,3 +1,5 @@
+pub mod Due
+pub mod Fate
 pub mod Mended
 pub mod Report
 pub mod Restored

@@ -13,13 +13,14 @@ use Rattle.register.specs.declared.StatementLine.{StatementLine}
 use Rattle.register.specs.declared.ObjectionLine.{ObjectionLine}
 use Rattle.register.specs.Register.{Issued, numbers}
 use Rattle.mend.specs.TextLines.{TextLine, ObjectionAt}
+use Rattle.mend.specs.Fate.{kept}
 use Rattle.mend.specs.Mended.{fates, mended}
 use Rattle.mend.specs.Staying.{statementsStaying}
 
 -- "If only objections by unknown numbers against listed ones were dropped and no line moved"
 abbrev pub Restorable : List TextLine → Type 0
 Restorable ls =
-    (k : ℕ) → k < length ls → (getD (fates ls) k 0 ≡ 0)
+    (k : ℕ) → k < length ls → (getD (fates ls) k kept ≡ kept)
     ⊎ ((o : ObjectionLine) × ObjectionAt ls k o × (¬ Issued (mended ls) (o .objector)) × Issued (mended ls) (o .target))
 
 -- F has the listed statements, then one for each unknown number. The listed ones have the text's own marks, and the text's

@@ -1,10 +1,10 @@
 -- What stays of a text, said by the fates of its lines alone: which lines they are, and which marks change.
-use mathlib.Core.Bool.{Bool, cond, _||_}
+use mathlib.Core.Bool.{cond}
 use mathlib.Core.List.{List, [], _∷_, _++_}
 use mathlib.Core.Logic.{_⊎_}
 use mathlib.Core.Path.{_≡_}
 use Prim.Native.Nat.{ℕ}
-use lib.Dec.{eqb, T}
+use lib.Dec.{T}
 use lib.ListN.{getD}
 use Rattle.register.specs.declared.Mark.the-variants.{Unread}
 use Rattle.register.specs.declared.StatementLine.{StatementLine}
@@ -12,6 +12,7 @@ use Rattle.register.specs.declared.ObjectionLine.{ObjectionLine}
 use Rattle.register.specs.declared.Line.the-variants.{Statement, Objection}
 use Rattle.register.specs.Register.{Issued}
 use Rattle.mend.specs.TextLines.{TextLine, good, spoiled, unended, StatementAt, ObjectionAt}
+use Rattle.mend.specs.Fate.{Fate, kept, dropped, stays, second-statement, unknown-number, objection-limit}
 use Rattle.mend.specs.Mended.{fates, mended}
 
 abbrev pub statementIn : TextLine → List StatementLine
@@ -26,17 +27,13 @@ objectionIn (good (Objection o)) = o ∷ []
 objectionIn spoiled = []
 objectionIn unended = []
 
--- kept in its place, or moved
-abbrev pub stays : ℕ → Bool
-stays fate = eqb fate 0 || eqb fate 4
-
 -- the statement lines that stay, with their own marks, and the objection lines that stay, in text order
-unfoldable pub statementsStaying : List TextLine → List ℕ → List StatementLine
+unfoldable pub statementsStaying : List TextLine → List Fate → List StatementLine
 statementsStaying [] fs = []
 statementsStaying (l ∷ ls) [] = []
 statementsStaying (l ∷ ls) (f ∷ fs) = cond (stays f) (statementIn l) [] ++ statementsStaying ls fs
 
-unfoldable pub objectionsStaying : List TextLine → List ℕ → List ObjectionLine
+unfoldable pub objectionsStaying : List TextLine → List Fate → List ObjectionLine
 objectionsStaying [] fs = []
 objectionsStaying (l ∷ ls) [] = []
 objectionsStaying (l ∷ ls) (f ∷ fs) = cond (stays f) (objectionIn l) [] ++ objectionsStaying ls fs
@@ -48,7 +45,7 @@ goodLines (good l ∷ ls) = good l ∷ goodLines ls
 goodLines (spoiled ∷ ls) = goodLines ls
 goodLines (unended ∷ ls) = goodLines ls
 
-unfoldable pub goodFates : List TextLine → List ℕ → List ℕ
+unfoldable pub goodFates : List TextLine → List Fate → List Fate
 goodFates [] fs = []
 goodFates (l ∷ ls) [] = []
 goodFates (good l ∷ ls) (f ∷ fs) = f ∷ goodFates ls fs
@@ -60,6 +57,7 @@ goodFates (unended ∷ ls) (f ∷ fs) = goodFates ls fs
 abbrev pub UnreadBy : List TextLine → ℕ → Type 0
 UnreadBy ls n =
     ((k : ℕ) × (st : StatementLine) × StatementAt ls k st × (st .number ≡ n)
-    × ((T (stays (getD (fates ls) k 0)) × (st .mark ≡ Unread)) ⊎ (getD (fates ls) k 0 ≡ 5)))
+    × ((T (stays (getD (fates ls) k kept)) × (st .mark ≡ Unread)) ⊎ (getD (fates ls) k kept ≡ dropped second-statement)))
     ⊎ ((k : ℕ) × (o : ObjectionLine) × ObjectionAt ls k o × (o .target ≡ n)
-    × (((getD (fates ls) k 0 ≡ 7) × (¬ Issued (mended ls) (o .objector))) ⊎ (getD (fates ls) k 0 ≡ 9)))
+    × (((getD (fates ls) k kept ≡ dropped unknown-number) × (¬ Issued (mended ls) (o .objector)))
+    ⊎ (getD (fates ls) k kept ≡ dropped objection-limit)))

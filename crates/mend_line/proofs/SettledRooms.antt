@@ -25,7 +25,7 @@ use Rattle.mend.specs.Mended.{unreadIf, unread, settleStatement, settleObjectio
 use Rattle.mend.proofs.Settling.{settles-second, settles-beyond, settles-new, settles-unknown, settles-repeat, settles-past}
 use Rattle.mend.proofs.Settling.{settles-kept}
 use Rattle.mend.proofs.Valid.{numbers-stay, valid-unread}
-use Rattle.mend_line.specs.SettledRooms.{Stated, StatementSettled, ObjectionSettled}
+use Rattle.mend_line.specs.SettledRooms.{told, Stated, StatementSettled, ObjectionSettled}
 
 -- the marks where one number's is unread
 marks-after : (v : ℕ) (S : List StatementLine) (j : ℕ) → j < length S
@@ -102,7 +102,7 @@ module _ (S : List StatementLine) (n : ℕ) (nums marks links : List ℕ) (state
     (number : IsNumber (st .number)) (nums-room : 1024 ≤ length nums) (marks-room : 1024 ≤ length marks) (f : ℕ)
     (nums′ marks′ links′ : List ℕ) where
   pub statement-stated : StatementSettled nums marks n st f nums′ marks′ links′
-      → (f ≡ settleStatement S st .0) × Stated (settleStatement S st .1) (cond (eqb f 0) (n + 1) n) nums′ marks′ links′
+      → (f ≡ told (settleStatement S st .0)) × Stated (settleStatement S st .1) (cond (eqb f 0) (n + 1) n) nums′ marks′ links′
   statement-stated (inl (e, (i, at, marked), same, indexed)) =
       let q = settles-second S st (on-register (bare S) n 0 nums marks [] [] (stated .holds) (st .number) i at) in
       rw (e, q, same, marked) (
@@ -138,7 +138,7 @@ module _ (R : Register) (n m : ℕ) (nums marks objectors targets : List ℕ) (h
     (valid : Valid R) (o : ObjectionLine) (marks-room : n ≤ length marks) (objectors-room : 4096 ≤ length objectors)
     (targets-room : 4096 ≤ length targets) (f : ℕ) (marks′ objectors′ targets′ : List ℕ) where
   pub objection-held : ObjectionSettled nums marks objectors targets n m o f marks′ objectors′ targets′
-      → (f ≡ settleObjection R o .0) × Valid (settleObjection R o .1)
+      → (f ≡ told (settleObjection R o .0)) × Valid (settleObjection R o .1)
       × Holds (settleObjection R o .1) n (cond (eqb f 0) (m + 1) m) nums marks′ objectors′ targets′
   objection-held (inl (e, absent, a, b, c)) =
       let off = off-register R n m nums marks objectors targets h (o .target) absent in

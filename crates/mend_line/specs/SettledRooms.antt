@@ -10,7 +10,12 @@ use Rattle.register.specs.Lines.{markNumber}
 use Rattle.register.specs.declared.StatementLine.{StatementLine}
 use Rattle.register.specs.declared.ObjectionLine.{ObjectionLine}
 use Rattle.register.specs.Register.{bare, Valid}
+use Rattle.mend.specs.Fate.{Fate, fateNumber}
 use Rattle.register_read.specs.ReadState.{Holds, At, Absent, EndPlaces}
+
+-- A fate as a room of bytes has it: by its number, which is the same in every line.
+abbrev pub told : Fate → ℕ
+told = fateNumber 0
 
 -- the rooms begin with these n statements, and their numbers are indexed
 pub record Stated (S : List StatementLine) (n : ℕ) (nums marks links : List ℕ) : Type 0 where

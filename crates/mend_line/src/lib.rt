@@ -1,6 +1,6 @@
 // One line of a text that is mended, settled in the lent rooms: a statement among those kept before it, or an objection among
-// all statements kept and the objections kept before it. Each function answers the line's fate: 0 kept, else the cause for which
-// it is dropped. Reading the lines is left to `mend_text`.
+// all statements kept and the objections kept before it. Each function answers the number of the line's fate: 0 kept, else the
+// cause for which it is dropped. Reading the lines is left to `mend_text`.
 use register::ObjectionLine;
 use register::StatementLine;
 ghost use mathlib.Core.Bool.{cond};

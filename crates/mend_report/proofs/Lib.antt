@@ -1,1 +1,2 @@
+pub mod NumberedReport
 pub mod ReportPut

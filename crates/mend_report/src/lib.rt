@@ -1,5 +1,5 @@
 // The report of a mending, written into a lent room: a row for each line of a text that was dropped or moved. The fates of the
-// lines are found by others, and words and numbers put by `room_write`.
+// lines, by their numbers, are found by others, and words and numbers put by `room_write`.
 use room_write::decimal_size;
 use room_write::put_decimal;
 use room_write::put_word;
@@ -8,7 +8,7 @@ ghost use mathlib.Core.Path.{_≡_};
 ghost use Prim.Native.Nat.{_≤_};
 ghost use lib.ListN.{length, drop};
 ghost use Rattle.room_write.specs.Writing.{RoomFor, Put};
-ghost use Rattle.mend.specs.Report.{fateField, reportRow, reportOf};
+ghost use Rattle.mend_report.specs.NumberedReport.{fateField, numberedRow, numberedReport};
 
 // The size of the word of a fate, with the tabs on either side.
 fn fate_size(fate: u8) -> usize
@@ -19,7 +19,7 @@ fn fate_size(fate: u8) -> usize
 
 // The size of the row of a line that was dropped or moved.
 fn row_size(line: u32, fate: u8) -> usize
-    ensures { λ r. ⌜ r ≡ length (reportRow line fate) ⌝ }
+    ensures { λ r. ⌜ r ≡ length (numberedRow line fate) ⌝ }
 {
     decimal_size(line) + fate_size(fate) + decimal_size(fate as u32) + 1
 }
@@ -27,7 +27,7 @@ fn row_size(line: u32, fate: u8) -> usize
 // How many bytes the report has. Lines are counted from 1, so the line at the place k is the one of the number `next`.
 pub fn report_size(fates: &[u8]) -> usize
     requires { ⌜ length (now fates) ≤ 65535 ⌝ }
-    ensures { λ r. ⌜ r ≡ length (reportOf (now (fates .entry))) ⌝ }
+    ensures { λ r. ⌜ r ≡ length (numberedReport (now (fates .entry))) ⌝ }
 {
     let mut total: usize = 0;
     let mut next = 0;
@@ -55,8 +55,8 @@ fn put_fate(room: &mut [u8], at: usize, fate: u8) -> usize
 
 // Puts the row of a line that was dropped or moved, and answers the place behind it.
 fn put_row(room: &mut [u8], at: usize, line: u32, fate: u8) -> usize
-    requires { ⌜ RoomFor (now room) at (reportRow line fate) ⌝ }
-    ensures { λ r. ⌜ Put (now (room .entry)) at (reportRow line fate) r (now (room .exit)) ⌝ }
+    requires { ⌜ RoomFor (now room) at (numberedRow line fate) ⌝ }
+    ensures { λ r. ⌜ Put (now (room .entry)) at (numberedRow line fate) r (now (room .exit)) ⌝ }
 {
     let word = put_decimal(room, at, line);
     let cause = put_fate(room, word, fate);
@@ -66,9 +66,9 @@ fn put_row(room: &mut [u8], at: usize, line: u32, fate: u8) -> usize
 
 // Writes the report at the start of a room that is long enough.
 pub fn put_report(room: &mut [u8], fates: &[u8])
-    requires { ⌜ (length (now fates) ≤ 65535) × (length (reportOf (now fates)) ≤ length (now room)) ⌝ }
-    ensures { λ _. ⌜ now (room .exit) ≡ reportOf (now (fates .entry))
-        ++ drop (length (reportOf (now (fates .entry)))) (now (room .entry)) ⌝ }
+    requires { ⌜ (length (now fates) ≤ 65535) × (length (numberedReport (now fates)) ≤ length (now room)) ⌝ }
+    ensures { λ _. ⌜ now (room .exit) ≡ numberedReport (now (fates .entry))
+        ++ drop (length (numberedReport (now (fates .entry)))) (now (room .entry)) ⌝ }
 {
     let mut end = 0;
     let mut next = 0;

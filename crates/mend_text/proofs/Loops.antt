@@ -1,6 +1,6 @@
 -- The loops over the lines: what is settled of the lines passed, and what is left to the lines from the place on.
 use mathlib.Core.Bool.{Bool, false}
-use mathlib.Core.List.{List, append-assoc, append-nil, [], _∷_, _++_}
+use mathlib.Core.List.{List, map, append-assoc, append-nil, [], _∷_, _++_}
 use mathlib.Core.Path.{sym, ap, refl, subst, _≡_, _∙_}
 use Prim.Native.Nat.{ℕ, _+_, _≤_, _<_}
 use native.Mathlib.Omega.{arith}
@@ -17,7 +17,7 @@ use Rattle.mend.specs.TextLines.{TextLine, LinesOf, good, spoiled, unended}
 use Rattle.mend.specs.Mended.{fates, withStatements, withStatement, lateAfter, mended, withObjections, fatesFrom, listed, fateOf}
 use Rattle.mend.specs.Mended.{withObjection}
 use Rattle.mend.proofs.TextLines.{none-first, few-lines}
-use Rattle.mend_line.specs.SettledRooms.{Stated}
+use Rattle.mend_line.specs.SettledRooms.{told, Stated}
 use Rattle.mend_text.specs.Passes.{Passed, firstFates, StatementPassed, firstFate, StatementsSettled, laterFate}
 use Rattle.mend_text.specs.Passes.{ObjectionPassed, ObjectionsSettled}
 use Rattle.mend_text.specs.declared.StatementPass.{StatementPass}
@@ -143,7 +143,7 @@ pub record Objecting (s : List ℕ) (ls : List TextLine) (at n m k : ℕ) (nums 
     pub valid : Valid R
     pub holds : Holds R n m nums marks objectors targets
     pub kept : mended ls ≡ withObjections R rest
-    pub fates-are : fates ls ≡ take k fates-room ++ fatesFrom S late R rest
+    pub fates-are : map told (fates ls) ≡ take k fates-room ++ map told (fatesFrom S late R rest)
     pub ahead : take (length ls) fates-room ≡ take k fates-room ++ firstFates S late rest
 
 pub objecting-first : (s : List ℕ) (ls : List TextLine) (n : ℕ) (nums marks links objectors targets fates-room : List ℕ)
@@ -169,8 +169,8 @@ objecting-first s ls n nums marks links objectors targets fates-room q = record 
   ahead = q .fates-are;
 }
 
-both-fates : (S : List StatementLine) (late : Bool) (R : Register) (l : TextLine) → laterFate R l (firstFate S late l) ≡ fateOf S
-    late R l
+both-fates : (S : List StatementLine) (late : Bool) (R : Register) (l : TextLine)
+    → laterFate R l (firstFate S late l) ≡ told (fateOf S late R l)
 both-fates S late R (good (Statement st)) = refl
 both-fates S late R (good (Objection o)) = refl
 both-fates S late R spoiled = refl
@@ -194,7 +194,7 @@ objecting-next s ls at n m k nums marks objectors targets room v h few r marks�
   holds = q .holds;
   kept = v .kept ∙ ap (withObjections (v .R)) (q .passed .first);
   fates-are =
-      v .fates-are ∙ ap (λ u. take k room ++ fatesFrom (v .S) (v .late) (v .R) u) (q .passed .first)
+      v .fates-are ∙ ap (λ u. take k room ++ map told (fatesFrom (v .S) (v .late) (v .R) u)) (q .passed .first)
       ∙ put-fate room k fate later h ∙ ap (λ u. take (k + 1) u ++ later) (sym put);
   ahead =
       ap (take (length ls)) put ∙ take-set-lt (length ls) room k fate l ∙ ap (λ u. set u k fate) first
@@ -209,10 +209,10 @@ objecting-next s ls at n m k nums marks objectors targets room v h few r marks�
     more = q .passed .more
 
     fate : ℕ
-    fate = fateOf (v .S) (v .late) (v .R) line
+    fate = told (fateOf (v .S) (v .late) (v .R) line)
 
     later : List ℕ
-    later = fatesFrom (withStatement (v .S) line) (lateAfter (v .late) line) (withObjection (v .R) line) more
+    later = map told (fatesFrom (withStatement (v .S) line) (lateAfter (v .late) line) (withObjection (v .R) line) more)
 
     waiting : List ℕ
     waiting = firstFates (withStatement (v .S) line) (lateAfter (v .late) line) more
@@ -245,7 +245,7 @@ objecting-last s ls at n m k nums marks objectors targets room v h =
         holds = subst (λ Q. Holds Q n m nums marks objectors targets) (sym e) (v .holds);
         fates-are =
             ap (λ j. take j room) c ∙ sym (append-nil (take k room))
-            ∙ sym (v .fates-are ∙ ap (λ u. take k room ++ fatesFrom (v .S) (v .late) (v .R) u) none);
+            ∙ sym (v .fates-are ∙ ap (λ u. take k room ++ map told (fatesFrom (v .S) (v .late) (v .R) u)) none);
       },
       sym c,
     )

@@ -1,23 +1,45 @@
 -- One line passed: what the rooms hold behind it.
-use mathlib.Core.Bool.{Bool, true, cond}
+use mathlib.Core.Bool.{Bool, true, false, cond}
 use mathlib.Core.List.{List}
 use mathlib.Core.Path.{refl, ap, sym, _≡_, _∙_}
 use Prim.Native.Nat.{ℕ, _+_, _≤_, _<_}
 use lib.Dec.{eqb}
 use lib.ListN.{drop, length, set, getD}
 use lib.Seq.{set-getD}
+use borrow.Author.Tests.{ne-eqb}
 use Rattle.register.specs.declared.StatementLine.{StatementLine}
 use Rattle.register.specs.declared.ObjectionLine.{ObjectionLine}
 use Rattle.register.specs.declared.Line.the-variants.{Objection, Statement}
 use Rattle.register.specs.Register.{Register, Valid}
 use Rattle.register_read.specs.ReadState.{Holds}
 use Rattle.mend.specs.TextLines.{TextLine, LinesOf, unended, spoiled, good}
-use Rattle.mend.specs.Mended.{movedIf}
-use Rattle.mend_line.specs.SettledRooms.{Stated, StatementSettled, ObjectionSettled}
+use Rattle.mend.specs.Fate.{Fate, kept, moved, dropped, unended-line, spoiled-line, second-statement, statement-limit}
+use Rattle.mend.specs.Fate.{unknown-number, repeat, objection-limit}
+use Rattle.mend.specs.Mended.{movedIf, settleStatement}
+use Rattle.mend_line.specs.SettledRooms.{told, Stated, StatementSettled, ObjectionSettled}
 use Rattle.mend_line.proofs.SettledRooms.{statement-stated, objection-held}
-use Rattle.mend_text.specs.Passes.{AnyLineAt, StatementPassed, ObjectionPassed}
+use Rattle.mend_text.specs.Passes.{toldIf, AnyLineAt, StatementPassed, ObjectionPassed}
 use Rattle.mend_text.specs.declared.AnyLine.the-variants.{Unended, Spoiled, Good}
 use Rattle.mend_text.proofs.LineAt.{pass-unended, pass-spoiled, pass-good}
+
+-- a late line is told as moved if it is kept
+told-late : (late : Bool) (fate : Fate) → toldIf late (told fate) ≡ told (movedIf late fate)
+told-late true kept = refl
+told-late true moved = refl
+told-late true (dropped unended-line) = refl
+told-late true (dropped spoiled-line) = refl
+told-late true (dropped second-statement) = refl
+told-late true (dropped statement-limit) = refl
+told-late true (dropped unknown-number) = refl
+told-late true (dropped repeat) = refl
+told-late true (dropped objection-limit) = refl
+told-late false kept = refl
+told-late false moved = refl
+told-late false (dropped cause) = refl
+
+pub told-anyway : (late : Bool) (fate : ℕ) → (fate ≡ 0 → ⊥) → toldIf late fate ≡ fate
+told-anyway true fate n = rw (ne-eqb fate 0 n) refl
+told-anyway false fate n = refl
 
 -- While statements are settled.
 module _ (s : List ℕ) (at : ℕ) (ls : List TextLine) (lines : LinesOf (drop at s) ls) (S : List StatementLine) (n : ℕ)
@@ -44,16 +66,16 @@ module _ (s : List ℕ) (at : ℕ) (ls : List TextLine) (lines : LinesOf (drop a
 
   pub past-statement : (st : StatementLine) (next : ℕ) → AnyLineAt s at (Good (Statement st) next) → 1024 ≤ length nums
       → 1024 ≤ length marks → (f : ℕ) (nums′ marks′ links′ : List ℕ) → StatementSettled nums marks n st f nums′ marks′ links′
-      → (n′ fate : ℕ) → n′ ≡ cond (eqb f 0) (n + 1) n → fate ≡ movedIf late f
+      → (n′ fate : ℕ) → n′ ≡ cond (eqb f 0) (n + 1) n → fate ≡ toldIf late f
       → StatementPassed s at ls S late (record { fate = fate; next = next; statements = n′; late = late }) nums′ marks′ links′
-  past-statement st next g a b f nums′ marks′ links′ settled n′ fate counted moved =
+  past-statement st next g a b f nums′ marks′ links′ settled n′ fate counted is =
       let (e, now-stated) = statement-stated S n nums marks links stated st (g .0) a b f nums′ marks′ links′ settled in
       record {
         line = good (Statement st);
         passed = pass-good s at ls lines (Statement st) next g;
         stated = rw counted now-stated;
         late-is = refl;
-        fate-is = moved ∙ ap (movedIf late) e;
+        fate-is = is ∙ ap (toldIf late) e ∙ told-late late (settleStatement S st .0);
       }
 
 -- While objections are settled.

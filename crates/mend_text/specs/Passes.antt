@@ -1,9 +1,10 @@
 -- What reading any text line by line leaves in the lent rooms, not for callers of the product: first statements are settled, then
--- objections, and each line has its fate in a room of its own.
-use mathlib.Core.Bool.{Bool, false}
-use mathlib.Core.List.{List, [], _∷_, _++_}
+-- objections, and each line has the number of its fate in a room of its own.
+use mathlib.Core.Bool.{Bool, cond, false, _&&_}
+use mathlib.Core.List.{List, map, [], _∷_, _++_}
 use mathlib.Core.Path.{_≡_}
 use Prim.Native.Nat.{ℕ, _≤_, _<_}
+use lib.Dec.{eqb}
 use lib.ListN.{length, getD, drop, set, take}
 use Rattle.register.specs.Lines.{BeginsWith}
 use Rattle.register_line.specs.LineReading.{GotAt}
@@ -16,7 +17,7 @@ use Rattle.register_read.specs.ReadState.{Holds}
 use Rattle.mend.specs.TextLines.{Unbroken, TextLine, good, spoiled, unended, LinesOf}
 use Rattle.mend.specs.Mended.{movedIf, settleStatement, withStatement, lateAfter, settleObjection, fates, withObjection, listed}
 use Rattle.mend.specs.Mended.{mended}
-use Rattle.mend_line.specs.SettledRooms.{Stated}
+use Rattle.mend_line.specs.SettledRooms.{told, Stated}
 use Rattle.mend_text.specs.declared.AnyLine.{AnyLine}
 use Rattle.mend_text.specs.declared.AnyLine.the-variants.{Good, Spoiled, Unended}
 use Rattle.mend_text.specs.declared.StatementPass.{StatementPass}
@@ -38,9 +39,13 @@ AnyLineAt s at (Spoiled next) =
     × ((w : List ℕ) × Unbroken w × (drop at s ≡ w ++ (10 ∷ drop next s)))
 AnyLineAt s at Unended = Unbroken (drop at s)
 
--- the fate of a line once statements are settled: that of an objection waits, as 0
+-- the number of a statement line's fate, from that of settling it
+abbrev pub toldIf : Bool → ℕ → ℕ
+toldIf late fate = cond (late && eqb fate 0) 4 fate
+
+-- the number of a line's fate once statements are settled: that of an objection waits, as 0
 abbrev pub firstFate : List StatementLine → Bool → TextLine → ℕ
-firstFate S late (good (Statement st)) = movedIf late (settleStatement S st .0)
+firstFate S late (good (Statement st)) = told (movedIf late (settleStatement S st .0))
 firstFate S late (good (Objection o)) = 0
 firstFate S late spoiled = 3
 firstFate S late unended = 2
@@ -49,10 +54,10 @@ unfoldable pub firstFates : List StatementLine → Bool → List TextLine → Li
 firstFates S late [] = []
 firstFates S late (l ∷ ls) = firstFate S late l ∷ firstFates (withStatement S l) (lateAfter late l) ls
 
--- the fate of a line once objections are settled, from that before
+-- the number of a line's fate once objections are settled, from that before
 abbrev pub laterFate : Register → TextLine → ℕ → ℕ
 laterFate R (good (Statement st)) f = f
-laterFate R (good (Objection o)) f = settleObjection R o .0
+laterFate R (good (Objection o)) f = told (settleObjection R o .0)
 laterFate R spoiled f = f
 laterFate R unended f = f
 
@@ -90,7 +95,7 @@ pub record StatementsSettled (s : List ℕ) (ls : List TextLine) (n : ℕ) (nums
 pub record ObjectionsSettled (ls : List TextLine) (n m : ℕ) (nums marks objectors targets fates-room : List ℕ) : Type 0 where
   pub valid : Valid (mended ls)
   pub holds : Holds (mended ls) n m nums marks objectors targets
-  pub fates-are : take (length ls) fates-room ≡ fates ls
+  pub fates-are : take (length ls) fates-room ≡ map told (fates ls)
 
 pub record TextSettled (s : List ℕ) (r : KeptCounts) (nums marks objectors targets fates-room : List ℕ) : Type 0 where
   pub ls : List TextLine

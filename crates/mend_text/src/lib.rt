@@ -13,11 +13,10 @@ ghost use Rattle.register.specs.declared.StatementLine.{StatementLine};
 ghost use Rattle.register.specs.Register.{Register, Valid};
 ghost use Rattle.register_read.specs.ReadState.{Holds};
 ghost use Rattle.mend.specs.TextLines.{TextLine, LinesOf};
-ghost use Rattle.mend.specs.Mended.{movedIf};
 ghost use Rattle.mend_line.specs.SettledRooms.{Stated};
 ghost use Rattle.pair_words.specs.Words.{objectorsIn, targetsIn};
 ghost use Rattle.pair_repeat.specs.Entered.{Entered};
-ghost use Rattle.mend_text.specs.Passes.{NextEnd, AnyLineAt, StatementPassed, StatementRooms, StatementsSettled};
+ghost use Rattle.mend_text.specs.Passes.{NextEnd, AnyLineAt, toldIf, StatementPassed, StatementRooms, StatementsSettled};
 ghost use Rattle.mend_text.specs.Passes.{ObjectionRooms, ObjectionPassed, TextSettled};
 
 // A line of any text, and where the next one starts. An unended line is the last.
@@ -80,7 +79,7 @@ fn any_line(text: &[u8], at: usize) -> AnyLine
 
 // The fate of a statement line: one that is late and kept is moved.
 fn moved_if(late: bool, fate: u8) -> u8
-    ensures { λ r. ⌜ r ≡ movedIf late fate ⌝ }
+    ensures { λ r. ⌜ r ≡ toldIf late fate ⌝ }
 {
     if fate != 0 {
         return fate;

@@ -4,7 +4,7 @@ use mathlib.Core.List.{List}
 use mathlib.Core.Path.{sym, _≡_, _∙_}
 use Prim.Native.Nat.{ℕ, _<_}
 use native.Mathlib.Omega.{arith}
-use Rattle.game.specs.Find.{Found}
+use Rattle.game.specs.Questions.{Found}
 use Rattle.pair_chain.proofs.ChainWalks.{walk-ends}
 use Rattle.pair_words.specs.Words.{objectorsIn, targetsIn}
 use Rattle.lists.specs.Refuses.{Same}

@@ -16,7 +16,7 @@ use pair_words::target_of;
 ghost use mathlib.Core.Path.{_≡_};
 ghost use Prim.Native.Nat.{_≤_, ℕ, _<_, _+_};
 ghost use lib.ListN.{length, set, take};
-ghost use Rattle.game.specs.Find.{Found};
+ghost use Rattle.game.specs.Questions.{Found};
 ghost use Rattle.pair_words.specs.Words.{beginAgainst, beginBy, objectorsIn, targetsIn};
 ghost use Rattle.lists.specs.Refuses.{Same};
 ghost use Rattle.pair_repeat.specs.Entered.{Entered};

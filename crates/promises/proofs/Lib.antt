@@ -1,10 +1,15 @@
+pub mod Answerable
 pub mod AskedOnText
+pub mod CallsSay
 pub mod Demands
-pub mod Idle
+pub mod DemandsInC
+pub mod Fields
+pub mod IssuedNumbers
 pub mod OnLists
 pub mod OnText
 pub mod Programs
 pub mod Says
+pub mod SaysOnce
 pub mod SheetUpdates
 pub mod UniqueAskedLists
 pub mod UniqueAskedText
@@ -15,3 +20,4 @@ pub mod UniqueListing
 pub mod UniqueMend
 pub mod UniqueReason
 pub mod UniqueSheet
+pub mod WrittenOnce

@@ -1,26 +1,33 @@
--- What each program prints for its input is one thing only: `printed-once`, `reason-printed-once`, `outcome-once`.
-use mathlib.Core.List.{List}
+-- What each program prints for its input is one thing only: `printed-once`, `reason-printed-once`, `outcome-once`; and whatever
+-- the input, there is something to print: `printed-there`, `reason-printed-there`, `outcome-there`.
+use mathlib.Core.List.{List, [], _∷_}
 use mathlib.Core.Logic.{inl, inr, _⊎_}
-use mathlib.Core.Path.{subst, ap, sym, _≡_, _∙_}
-use Prim.Native.Nat.{ℕ}
+use mathlib.Core.Path.{subst, ap, refl, sym, _≡_, _∙_}
+use Prim.Native.Nat.{ℕ, _≤_, _<_}
+use native.Mathlib.Decide.{decLe}
 use native.Mathlib.Omega.{arith}
+use lib.ListN.{length, getD}
 use Rattle.answer.specs.Refusals.{refusalNumber, refusalPlace}
 use Rattle.answer.specs.declared.Refusal.{Refusal}
 use Rattle.promises.specs.OnText.{TextRefused}
-use Rattle.register.specs.Register.{Register, Places, written}
-use Rattle.register.specs.Reads.{Accepts}
+use Rattle.register.specs.Register.{Register, Places, numbers, written}
+use Rattle.register.specs.Reads.{Accepts, Refuses}
+use Rattle.register.specs.declared.TextFault.{TextFault}
+use Rattle.register.specs.declared.TextFault.the-variants.{TooLong}
 use Rattle.listing.specs.Rows.{refusedRow}
 use Rattle.listing.specs.Listing.{IsListing}
-use Rattle.listing.proofs.Listing.{listing-once}
+use Rattle.listing.proofs.Listing.{listing-once, listing-there}
 use Rattle.promises.specs.Programs.{Prints, Names, ReasonNamed, NoneNamed, PrintsRefusal, PrintsReason, Outcome, Mends}
 use Rattle.promises.specs.Programs.{no-report, with-report, PrintsFault}
-use Rattle.register.proofs.Number.{number-injective}
+use Rattle.register.specs.Number.{IsNumber, numberBytes}
+use Rattle.register.proofs.Number.{number-injective, number?}
 use Rattle.answer.specs.declared.Refusal.the-variants.{Asked, Text}
-use Rattle.register.proofs.Order.{place-once}
+use Rattle.register.proofs.Order.{place-once, numbers-counted}
+use Rattle.register.proofs.Settled.{Settles, same?, below?, settled}
 use Rattle.reason.specs.Reasons.{IsReason}
-use Rattle.reason.proofs.Reasons.{reason-once}
+use Rattle.reason.proofs.Reasons.{reason-once, reason-there}
 use Rattle.mend.specs.Mended.{mended, fates}
-use Rattle.mend.proofs.TextLines.{lines-once}
+use Rattle.mend.proofs.TextLines.{lines-once, lines-exist}
 use Rattle.mend.specs.Report.{reportOf}
 use Rattle.register.proofs.Unique as text
 
@@ -71,3 +78,64 @@ outcome-once s (with-report a p) (with-report b q) (h, (ls, is, e, f)) (h′, (l
     let one : ls ≡ ls′ = lines-once s ls ls′ is is′ in
     ap (λ u. with-report u p) (e ∙ ap (λ l. written (mended l)) one ∙ sym e′)
     ∙ ap (with-report b) (f ∙ ap (λ l. reportOf (fates l)) one ∙ sym f′)
+
+-- there is a line for every fault
+fault-there : (s : List ℕ) (r : TextFault) → Refuses s r → (printed : List ℕ) × PrintsFault s printed
+fault-there s r p = (refusedRow (refusalNumber (Text r)) (refusalPlace (Text r)), (r, p, refl))
+
+pub printed-there : (s : List ℕ) → (printed : List ℕ) × Prints s printed
+printed-there s = go (settled s)
+  where
+    go : ((R : Register) × Accepts s R) ⊎ ((r : TextFault) × Refuses s r) → (printed : List ℕ) × Prints s printed
+    go (inl (R, a)) = let (l, is) = listing-there R (a .valid) in (l, inl (R, a, is))
+    go (inr (r, p)) = let (l, is) = fault-there s r p in (l, inr is)
+
+-- the argument is this number, or it is not
+alike? : (u v : List ℕ) → Settles (u ≡ v)
+alike? [] [] = inl refl
+alike? [] (b ∷ v) = inr (λ e. let z : _≡_ {A = ℕ} 0 1 = cc in omega arith)
+alike? (a ∷ u) [] = inr (λ e. let z : _≡_ {A = ℕ} 0 1 = cc in omega arith)
+alike? (a ∷ u) (b ∷ v) = go (same? a b) (alike? u v)
+  where
+    go : Settles (a ≡ b) → Settles (u ≡ v) → Settles (a ∷ u ≡ b ∷ v)
+    go (inl p) (inl q) = inl (ap (λ c. c ∷ u) p ∙ ap (λ w. b ∷ w) q)
+    go (inl p) (inr n) = inr (λ e. n cc)
+    go (inr n) q = inr (λ e. n cc)
+
+names? : (argument : List ℕ) (n : ℕ) → Settles (Names argument n)
+names? argument n = go (number? n) (alike? argument (numberBytes n))
+  where
+    go : Settles (IsNumber n) → Settles (argument ≡ numberBytes n) → Settles (Names argument n)
+    go (inl p) (inl q) = inl (p, q)
+    go (inl p) (inr m) = inr (λ w. m (w .1))
+    go (inr m) q = inr (λ w. m (w .0))
+
+pub reason-printed-there : (s argument : List ℕ) → (printed : List ℕ) × PrintsReason s argument printed
+reason-printed-there s argument = go (settled s)
+  where
+    of : (R : Register) → Accepts s R
+        → Settles ((x : ℕ) × (x < length (numbers R)) × Names argument (getD (numbers R) x 0))
+        → (printed : List ℕ) × (ReasonNamed R argument printed ⊎ (NoneNamed R argument × PrintsRefusal Asked printed))
+    of R a (inl (x, h, n)) =
+        let (l, is) = reason-there R x (a .valid) (omega (arith, numbers-counted R)) in
+        (l, inl (getD (numbers R) x 0, x, n, (h, refl), is))
+    of R a (inr none) = (
+      refusedRow (refusalNumber Asked) (refusalPlace Asked),
+      inr ((λ number n (x, h, e). none (x, h, subst (Names argument) (sym e) n)), refl),
+    )
+
+    go : ((R : Register) × Accepts s R) ⊎ ((r : TextFault) × Refuses s r) → (printed : List ℕ) × PrintsReason s argument printed
+    go (inl (R, a)) =
+        let (l, is) = of R a (below? (length (numbers R)) (λ x. Names argument (getD (numbers R) x 0))
+        (λ x. names? argument (getD (numbers R) x 0))) in
+        (l, inr (R, a, is))
+    go (inr (r, p)) = let (l, is) = fault-there s r p in (l, inl is)
+
+pub outcome-there : (s : List ℕ) → (outcome : Outcome) × Mends s outcome
+outcome-there s = go (decLe (length s) 65535)
+  where
+    go : Dec (length s ≤ 65535) → (outcome : Outcome) × Mends s outcome
+    go (yes h) =
+        let (ls, is) = lines-exist s in
+        (with-report (written (mended ls)) (reportOf (fates ls)), (h, (ls, is, refl, refl)))
+    go (no h) = (no-report (refusedRow (refusalNumber (Text TooLong)) (refusalPlace (Text TooLong))), (omega arith, refl))

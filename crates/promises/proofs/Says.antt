@@ -81,7 +81,7 @@ module _ (B : Book) (x : ℕ) where
     length-says a (v, m, e) = subst (λ u. LengthSays B x (accountLength u)) (sym e) (verdict-length v m)
 
 -- the kind that the table gives is the one it is said to give
-same-kind : (P : Kind → Type 0) (κ κ′ : Kind) → _≡_ {A = Option Kind} (some κ) (some κ′) → P κ → P κ′
+pub same-kind : (P : Kind → Type 0) (κ κ′ : Kind) → _≡_ {A = Option Kind} (some κ) (some κ′) → P κ → P κ′
 same-kind P κ κ′ e p = subst P (ap kind e) p
   where
     kind : Option Kind → Kind

@@ -36,7 +36,7 @@ module _ (B : Book) (number : Account → ℕ) (statements : ℕ) (room : List �
   statements-fit r n after (h, e) (c, b) = omega (arith, h, c, b .fits)
 
 module _ (marks objectors targets : List ℕ) where
-  pairs-statements-unique : (number : Account → ℕ) (room : List ℕ) (a a′ : Answer) (after after′ : List ℕ)
+  pub pairs-statements-unique : (number : Account → ℕ) (room : List ℕ) (a a′ : Answer) (after after′ : List ℕ)
       → PairsStatements marks objectors targets number room a after
       → PairsStatements marks objectors targets number room a′ after′ → (a ≡ a′) × (after ≡ after′)
   pairs-statements-unique number room =
@@ -64,7 +64,7 @@ pub unique-moves-lengths : (marks from to room : List ℕ) (a a′ : Answer) (af
 unique-moves-lengths marks from to = unique-pairs-lengths marks to from
 
 module _ (s : List ℕ) where
-  text-statements-unique : (number : Account → ℕ) (room : List ℕ) (a a′ : Answer) (after after′ : List ℕ)
+  pub text-statements-unique : (number : Account → ℕ) (room : List ℕ) (a a′ : Answer) (after after′ : List ℕ)
       → TextStatements s number room a after → TextStatements s number room a′ after′ → (a ≡ a′) × (after ≡ after′)
   text-statements-unique number room =
       on-unique (text-apart s) (λ R. Short (length room < length (R .statements)))

@@ -1,6 +1,8 @@
 pub mod ArgumentCalls
 pub mod Demands
 pub mod ExerciseCalls
+pub mod Fine
+pub mod IssuedNumbers
 pub mod KindCalls
 pub mod LabelCalls
 pub mod ListingCalls
@@ -10,3 +12,4 @@ pub mod OnText
 pub mod Programs
 pub mod ReasonCalls
 pub mod SheetCalls
+pub mod WrittenDemands

@@ -1,19 +1,22 @@
--- A statement has one reason, and it is not long.
+-- A statement has one reason, which is there and is not long.
 use mathlib.Core.List.{List, _++_}
-use mathlib.Core.Path.{ap₂, ap, sym, _≡_, _∙_}
+use mathlib.Core.Path.{ap₂, ap, refl, sym, _≡_, _∙_}
 use Prim.Native.Nat.{ℕ, _≤_, _<_}
 use native.Mathlib.Omega.{arith}
 use lib.ListN.{getD, length, length-append}
+use Rattle.game.specs.Book.{bookOf}
 use Rattle.game.specs.Reason.{InReason}
-use Rattle.game.proofs.Account.{statement-once}
-use Rattle.register.specs.Register.{Register, numbers, book, objectorsOf, targetsOf}
+use Rattle.game.proofs.Account.{statement-once, statement-told}
+use Rattle.register.specs.Register.{Register, Valid, numbers, book, objectorsOf, targetsOf}
 use Rattle.register.specs.Reads.{Accepts}
+use Rattle.register.proofs.Order.{marks-counted}
 use Rattle.reason.specs.Alone.{keep}
+use Rattle.reason.proofs.Alone.{alone-there}
 use Rattle.reason.proofs.Keep.{keep-same, tests-same}
 use Rattle.listing.specs.Rows.{statementRow}
 use Rattle.listing.specs.Listing.{objectionRows}
 use Rattle.listing.proofs.Rows.{statement-small}
-use Rattle.listing.proofs.Listing.{rows-bounded, text-length, objections-once}
+use Rattle.listing.proofs.Listing.{rows-bounded, text-length, objections-once, objections-there}
 use Rattle.reason.specs.Reasons.{IsReason}
 use Rattle.reason.proofs.KeepRows.{kept-shorter}
 
@@ -32,6 +35,25 @@ module _ (R : Register) (x : ℕ) where
       choices-same =
           tests-same (λ k. InReason (book R) x (getD (objectorsOf R) k 0) (getD (targetsOf R) k 0)) (length (R .objections))
           (a .inside) (b .inside) (a .exactly) (b .exactly)
+
+  pub reason-there : Valid R → x < length (R .statements) → (l : List ℕ) × IsReason R x l
+  unfolding bookOf
+  reason-there v h =
+      let (told, of) = statement-told (book R) x (omega (arith, marks-counted R v)) in
+      let (objections, is) = objections-there R v in
+      let (S, alone) = alone-there R v x h in (
+        statementRow (getD (numbers R) x 0) told ++ objectionRows (keep (alone .objection) (R .objections))
+            (keep (alone .objection) objections),
+        record {
+          statement = told;
+          objections = objections;
+          of-statement = of;
+          of-objections = is;
+          inside = alone .objection;
+          exactly = alone .objections-exactly;
+          is = refl;
+        },
+      )
 
   -- it has at most 131,072 bytes
   pub reason-short : (s l : List ℕ) → Accepts s R → IsReason R x l → length l ≤ 131072

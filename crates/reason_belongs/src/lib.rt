@@ -4,7 +4,7 @@ use game::Kind;
 ghost use Prim.Native.Nat.{_<_};
 ghost use lib.ListN.{length, getD};
 ghost use Rattle.game.specs.Book.{bookOf};
-ghost use Rattle.game.specs.Find.{Decides};
+ghost use Rattle.game.specs.Questions.{Decides};
 ghost use Rattle.game.specs.Reason.{Belongs};
 ghost use Rattle.label_solve.specs.Labelled.{ListsLabelled};
 

@@ -7,7 +7,7 @@ use Prim.Native.Nat.{ℕ, _+_, _-_, _≤_, _<_}
 use native.Mathlib.Omega.{arith}
 use lib.ListN.{getD, length, set}
 use Rattle.game.specs.Book.{bookOf, Book, InOrder, Listed}
-use Rattle.game.specs.Find.{Decides}
+use Rattle.game.specs.Questions.{Decides}
 use Rattle.game.specs.Reason.{Belongs, Reaches, asked, onward, InReason}
 use Rattle.game.proofs.HandedBook.{objects-entry}
 use Rattle.game.proofs.Reason.{reaches-listed}

@@ -13,7 +13,7 @@ ghost use mathlib.Core.Path.{_≡_};
 ghost use Prim.Native.Nat.{_<_, _≤_, ℕ};
 ghost use lib.ListN.{length, getD};
 ghost use Rattle.game.specs.Book.{bookOf};
-ghost use Rattle.game.specs.Find.{Decides};
+ghost use Rattle.game.specs.Questions.{Decides};
 ghost use Rattle.game.specs.Reason.{Belongs, InReason};
 ghost use Rattle.pair_chain.specs.Linked.{Chains};
 ghost use Rattle.label_solve.specs.Labelled.{ListsLabelled};

@@ -47,6 +47,23 @@ pub digits-append : (p q : List ℕ) → Digits p → Digits q → Digits (p ++ 
 digits-append [] q a b = b
 digits-append (x ∷ p) q (l, h, a) b = (l, h, digits-append p q a b)
 
+-- of any number, though it has more digits than are written
+digits-in : (f n : ℕ) → Digits (decimalIn f n)
+unfolding decimalIn
+digits-in zero n = tt
+digits-in (suc f) n = go (decLt n 10) (digits-in f (n / 10))
+  where
+    go : Dec (n < 10) → Digits (decimalIn f (n / 10))
+        → Digits (pickBytes (ltb n 10) ((48 + n) ∷ []) (decimalIn f (n / 10) ++ ((48 + n % 10) ∷ [])))
+    go (yes l) ih = rw (lt-ltb n 10 l) (omega arith, omega arith, tt)
+    go (no l) ih =
+        rw (le-ltb n 10 (omega arith)) (digits-append (decimalIn f (n / 10)) ((48 + n % 10) ∷ []) ih
+        (omega arith, omega arith, tt))
+
+pub decimal-digits : (n : ℕ) → Digits (decimal n)
+unfolding decimal
+decimal-digits n = digits-in 10 n
+
 -- What holds of one digit, and of a tenth with one digit more, holds of every number below 10 ^ 10.
 module _ (P : ℕ → List ℕ → Type 0) (one : (n : ℕ) → n < 10 → P n ((48 + n) ∷ []))
     (step : (n d : ℕ) (ds : List ℕ) → 0 < n → d < 10 → P n ds → P (n * 10 + d) (ds ++ ((48 + d) ∷ []))) where
@@ -68,11 +85,6 @@ module _ (P : ℕ → List ℕ → Type 0) (one : (n : ℕ) → n < 10 → P n (
   unfolding decimal
   of-decimal n h = by-digits 9 n h
 
-pub decimal-digits : (n : ℕ) → n < 10 ^ 10 → Digits (decimal n)
-decimal-digits =
-    of-decimal (λ n ds. Digits ds) (λ n h. (omega arith, omega arith, tt))
-    (λ n d ds h l p. digits-append ds ((48 + d) ∷ []) p (omega arith, omega arith, tt))
-
 -- the first byte of a number above 0 is not that of 0
 abbrev pub Leads : ℕ → List ℕ → Type 0
 Leads n [] = ⊥
@@ -86,7 +98,7 @@ pub decimal-leads : (n : ℕ) → n < 10 ^ 10 → Leads n (decimal n)
 decimal-leads = of-decimal Leads (λ n h l. omega arith) (λ n d ds h l p. leads-more n (n * 10 + d) ds ((48 + d) ∷ []) h p)
 
 -- the number that digits say, the first the highest
-spell : ℕ → List ℕ → ℕ
+unfoldable pub spell : ℕ → List ℕ → ℕ
 spell a [] = a
 spell a (b ∷ bs) = spell (a * 10 + (b - 48)) bs
 
@@ -99,7 +111,7 @@ says-one : (n : ℕ) → n < 10 → spell 0 ((48 + n) ∷ []) ≡ n
 unfolding spell
 says-one n h = omega arith
 
-decimal-says : (n : ℕ) → n < 10 ^ 10 → spell 0 (decimal n) ≡ n
+pub decimal-says : (n : ℕ) → n < 10 ^ 10 → spell 0 (decimal n) ≡ n
 decimal-says = of-decimal (λ n ds. spell 0 ds ≡ n) says-one (λ n d ds h l p. spell-more 0 ds (48 + d) ∙ omega arith)
 
 pub decimal-injective : (n m : ℕ) → n < 10 ^ 10 → m < 10 ^ 10 → decimal n ≡ decimal m → n ≡ m

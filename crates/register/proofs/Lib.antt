@@ -1,5 +1,6 @@
 pub mod Decimals
 pub mod Digits
+pub mod Guess
 pub mod Lines
 pub mod Number
 pub mod OneMore

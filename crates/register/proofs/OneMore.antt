@@ -40,7 +40,7 @@ longer : (l : List ℕ) (v : ℕ) → length (l ++ (v ∷ [])) ≡ length l + 1
 longer l v = length-append l (v ∷ [])
 
 -- an entry of it is an old one or the last
-old-or-last : (l : List ℕ) (v k : ℕ) → k < length (l ++ (v ∷ [])) → ((k < length l) × (getD (l ++ (v ∷ [])) k 0 ≡ getD l k 0))
+pub old-or-last : (l : List ℕ) (v k : ℕ) → k < length (l ++ (v ∷ [])) → ((k < length l) × (getD (l ++ (v ∷ [])) k 0 ≡ getD l k 0))
     ⊎ ((k ≡ length l) × (getD (l ++ (v ∷ [])) k 0 ≡ v))
 old-or-last l v k h = go (decLt k (length l))
   where

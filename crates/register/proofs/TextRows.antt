@@ -31,10 +31,20 @@ module _ (row : ℕ → List ℕ) where
           (n + d) refl in omega (arith, rows-longer (n + d)))
 
   -- rows of at most b bytes each
-  pub rows-small : (b : ℕ) → ((i : ℕ) → length (row i) ≤ b) → (n : ℕ) → length (rowsTo n row) ≤ b * n
+  pub rows-within : (b n : ℕ) → ((i : ℕ) → i < n → length (row i) ≤ b) → length (rowsTo n row) ≤ b * n
   unfolding rowsTo
-  rows-small b h zero = omega arith
-  rows-small b h (suc n) = omega (arith, length-append (rowsTo n row) (row n), rows-small b h n, h n, mul-suc b n)
+  rows-within b zero h = omega arith
+  rows-within b (suc n) h =
+      omega (
+        arith,
+        length-append (rowsTo n row) (row n),
+        rows-within b n (λ i l. h i (omega arith)),
+        h n (omega arith),
+        mul-suc b n,
+      )
+
+  pub rows-small : (b : ℕ) → ((i : ℕ) → length (row i) ≤ b) → (n : ℕ) → length (rowsTo n row) ≤ b * n
+  rows-small b h n = rows-within b n (λ i l. h i)
 
   -- the first row, and those behind it
   pub row-first : (n : ℕ) → rowsTo (suc n) row ≡ row 0 ++ rowsTo n (λ i. row (suc i))

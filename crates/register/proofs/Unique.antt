@@ -27,7 +27,7 @@ abbrev pub Formed : List Line → Type 0
 Formed [] = Unit {0}
 Formed (l ∷ ls) = WellFormed l × Formed ls
 
-formed-append : (ls ms : List Line) → Formed ls → Formed ms → Formed (ls ++ ms)
+pub formed-append : (ls ms : List Line) → Formed ls → Formed ms → Formed (ls ++ ms)
 formed-append [] ms a b = b
 formed-append (l ∷ ls) ms (h, a) b = (h, formed-append ls ms a b)
 
@@ -70,7 +70,7 @@ objections-formed : (os : List ObjectionLine) → ((k : ℕ) → k < length os
 objections-formed [] f = tt
 objections-formed (o ∷ os) f = (f 0 (omega arith), objections-formed os (λ k h. f (suc k) (omega arith)))
 
-issued-number : (R : Register) → Valid R → (n : ℕ) → OnRegister R n → IsNumber n
+pub issued-number : (R : Register) → Valid R → (n : ℕ) → OnRegister R n → IsNumber n
 issued-number R v n (i, h, e) = rw e at (v .numbered i h)
 
 pub lines-formed : (R : Register) → Valid R → Formed (lines R)
@@ -381,7 +381,7 @@ bytes-ended l (m ∷ ls) =
           ∙ sym (append-assoc (lineBytes l) b (10 ∷ [])),
     )
 
-lines-ended : (ls : List Line) → NotEnded (bytes ls) → ⊥
+pub lines-ended : (ls : List Line) → NotEnded (bytes ls) → ⊥
 unfolding bytes
 lines-ended [] (h, n) = omega arith
 lines-ended (l ∷ ls) (h, n) =

@@ -5,7 +5,7 @@ use mathlib.Core.Path.{refl, subst, ap, sym, _≡_, _∙_}
 use Prim.Native.Nat.{ℕ, zero, suc, _+_, _*_, _-_, _/_, _≤_, _<_}
 use native.Mathlib.Omega.{arith}
 use lib.ListN.{replicate, length-replicate, getD, length, set, length-set}
-use Rattle.game.specs.Find.{Found}
+use Rattle.game.specs.Questions.{Found}
 use Rattle.pair_chain.proofs.ChainSteps.{all-zero, stored}
 use Rattle.register_index.specs.Indexed.{slot, Indexed, Leads, Free, New}
 

@@ -10,7 +10,7 @@ use pair_chain::wide;
 ghost use mathlib.Core.Path.{_≡_};
 ghost use Prim.Native.Nat.{_≤_, _+_};
 ghost use lib.ListN.{length, getD, set};
-ghost use Rattle.game.specs.Find.{Found};
+ghost use Rattle.game.specs.Questions.{Found};
 ghost use Rattle.register_index.specs.Indexed.{slot, Indexed, Free, New};
 
 // The slot of a node for the last digit of what is left.

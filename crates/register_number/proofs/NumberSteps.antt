@@ -15,7 +15,7 @@ use Rattle.register.specs.Number.{IsNumber, numberBytes}
 use Rattle.register_number.specs.NumberReading.{byteAt, digitOf, Parted, NumberAt}
 use Rattle.register_number.specs.declared.NumberRead.the-variants.{Value, NoNumber}
 use Rattle.register.proofs.Decimals.{Digits, digits-append, decimal-digits, Leads, decimal-leads, decimal-one, decimal-more}
-use Rattle.register.proofs.Number.{number-injective, number-short}
+use Rattle.register.proofs.Number.{number-digits, number-injective, number-short}
 
 -- inside a list the default does not matter
 pub inside : (s : List ℕ) (i a b : ℕ) → i < length s → getD s i a ≡ getD s i b
@@ -101,15 +101,11 @@ digits-fewer (x ∷ p) (y ∷ q) u r a h e =
     let f : length p ≤ length q = digits-fewer p q u r (a .2) h t in
     omega arith
 
--- a number's bytes are digits, and the first of them is not that of 0
-number-digits : (n : ℕ) → IsNumber n → Digits (numberBytes n)
-unfolding IsNumber numberBytes
-number-digits n h = decimal-digits n (omega (arith, h .1))
-
+-- the first of a number's bytes is not that of 0
 lead : (n : ℕ) (r u : List ℕ) → IsNumber n → u ≡ numberBytes n ++ r → (b : ℕ) × (t : List ℕ) × (u ≡ b ∷ t) × (48 < b)
     × (b ≤ 57)
 unfolding IsNumber numberBytes
-lead n r u h e = go (decimal n) refl (decimal-leads n (omega (arith, h .1))) (number-digits n h)
+lead n r u h e = go (decimal n) refl (decimal-leads n (omega (arith, h .1))) (number-digits n)
   where
     go : (ds : List ℕ) → decimal n ≡ ds → Leads n ds → Digits ds → (b : ℕ) × (t : List ℕ) × (u ≡ b ∷ t) × (48 < b) × (b ≤ 57)
     go [] q l d = absurd l
@@ -176,14 +172,14 @@ module _ (s : List ℕ) (at value i : ℕ) (v : Inv s at value i) where
       only : (n : ℕ) (rest : List ℕ) → IsNumber n → Parted rest → drop at s ≡ numberBytes n ++ rest → n ≡ value
       only n rest h k e =
           let p : numberBytes value ≡ numberBytes n = digits-same (numberBytes value) (numberBytes n) (drop i s) rest
-          (number-digits value number) (number-digits n h) (no-digit s i d here l) k (sym (v .spells) ∙ e) in
+          (number-digits value) (number-digits n) (no-digit s i d here l) k (sym (v .spells) ∙ e) in
           sym (number-injective value n number h p)
 
   pub nine-digits : (d : ℕ) → d ≡ digitOf (byteAt s i) → d < 10 → 8 ≤ i - at → NumberAt s at NoNumber
   nine-digits d here l h n rest j k e =
       let p : List ℕ = decimal value ++ ((48 + d) ∷ []) in
       let f : length p ≤ length (numberBytes n) = digits-fewer p (numberBytes n) (drop (i + 1) s) rest
-      (digits-append (decimal value) ((48 + d) ∷ []) (decimal-digits value (omega (arith, below-power)))
+      (digits-append (decimal value) ((48 + d) ∷ []) (decimal-digits value)
       (omega arith, omega arith, tt)) k (append-assoc (decimal value) ((48 + d) ∷ []) (drop (i + 1) s)
       ∙ sym (ap (λ u. decimal value ++ u) (digit-first s i d here l)) ∙ sym (v .spells) ∙ e) in
       omega (arith, f, number-short n j, v .count, length-append (decimal value) ((48 + d) ∷ []))

@@ -6,7 +6,7 @@ use Prim.Native.Nat.{ℕ, _≤_, _<_}
 use native.Mathlib.Omega.{arith}
 use lib.ListN.{length, getD}
 use Rattle.game.specs.Book.{bookOf}
-use Rattle.game.specs.Find.{Found}
+use Rattle.game.specs.Questions.{Found}
 use Rattle.lists.specs.Handed.{Handed}
 use Rattle.label_solve.specs.Labelled.{ListsLabelled}
 use Rattle.register.specs.Register.{Register, book, Issued, Places}

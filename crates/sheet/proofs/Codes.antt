@@ -1,7 +1,7 @@
 -- Codes in bytes: that they are below 4, where they are 0, and that a byte holds no more than its four codes.
 use mathlib.Core.List.{List}
 use mathlib.Core.Path.{ap, refl, sym, _≡_, _∙_}
-use Prim.Native.Nat.{ℕ, _+_, _*_, _/_, _%_, _≤_, _<_}
+use Prim.Native.Nat.{ℕ, zero, suc, _+_, _*_, _/_, _%_, _≤_, _<_}
 use native.Mathlib.Omega.{arith}
 use lib.Dec.{T, eqb, eqb→eq}
 use lib.ListN.{getD, length, List·getD-eq-default}
@@ -28,7 +28,7 @@ pub code-beyond : (sheet : List ℕ) (x : ℕ) → 4 * length sheet ≤ x → co
 code-beyond sheet x h = code-blank sheet x (List·getD-eq-default sheet 0 (omega (arith, h)))
 
 -- a byte is what its four codes make it
-abbrev joined : (ℕ → ℕ) → ℕ
+abbrev pub joined : (ℕ → ℕ) → ℕ
 joined code = code 0 + 4 * code 1 + 16 * code 2 + 64 * code 3
 
 whole : T (all 256 (λ b. eqb b (joined (inByte b))))
@@ -37,6 +37,14 @@ whole = tt
 
 byte-joined : (b : ℕ) → b < 256 → b ≡ joined (inByte b)
 byte-joined b h = eqb→eq b (joined (inByte b)) (all-at 256 (λ b. eqb b (joined (inByte b))) whole b h)
+
+-- four codes put into a byte are read back, each at its place
+pub joined-back : (code : ℕ → ℕ) → ((p : ℕ) → code p < 4) → (p : ℕ) → p < 4 → inByte (joined code) p ≡ code p
+joined-back code low zero h = omega (arith, low 0, low 1, low 2, low 3)
+joined-back code low (suc zero) h = omega (arith, low 0, low 1, low 2, low 3)
+joined-back code low (suc (suc zero)) h = omega (arith, low 0, low 1, low 2, low 3)
+joined-back code low (suc (suc (suc zero))) h = omega (arith, low 0, low 1, low 2, low 3)
+joined-back code low (suc (suc (suc (suc p)))) h = absurd (omega arith)
 
 pub byte-by-codes : (l l′ : List ℕ) (k : ℕ) → getD l k 0 < 256 → getD l′ k 0 < 256
     → ((x : ℕ) → x / 4 ≡ k → codeAt l x ≡ codeAt l′ x) → getD l k 0 ≡ getD l′ k 0

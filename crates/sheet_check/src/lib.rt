@@ -4,7 +4,7 @@ use sheet_code::code_at;
 use sheet_code::tally;
 ghost use Prim.Native.Nat.{_≤_};
 ghost use lib.ListN.{length};
-ghost use Rattle.game.specs.Find.{Decides};
+ghost use Rattle.game.specs.Questions.{Decides};
 ghost use Rattle.sheet.specs.Sheet.{codes, SoundSheet};
 ghost use Rattle.sheet_code.specs.SheetParts.{Spare, Own};
 

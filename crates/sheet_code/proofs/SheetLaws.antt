@@ -7,7 +7,7 @@ use native.Mathlib.Omega.{arith}
 use lib.ListN.{getD, length}
 use Rattle.game.specs.Book.{Book}
 use Rattle.game.specs.Account.{verdictAccount}
-use Rattle.game.specs.Find.{Decides}
+use Rattle.game.specs.Questions.{Decides}
 use Rattle.answer.specs.Answer.{Begins}
 use Rattle.sheet.specs.Sheet.{SoundSheet, bytesFor, codes, total, IsSheet}
 use Rattle.sheet_code.specs.SheetParts.{Tallied, Spare, Own, Coded, Filled, LabelsOf}

@@ -2,7 +2,7 @@
 use mathlib.Core.Path.{ap}
 use native.Mathlib.Omega.{arith}
 use lib.ListN.{length}
-use Rattle.mend.proofs.ReportRow.{moved-field, dropped-field}
+use Rattle.mend_report.proofs.NumberedReport.{moved-field, dropped-field}
 use Rattle.mend_report.proofs.fate_size.Statement.{statement}
 use Rattle.mend_report.proofs.fate_size.Tie as tie
 

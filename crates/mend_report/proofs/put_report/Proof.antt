@@ -5,11 +5,11 @@ use native.Mathlib.Omega.{arith}
 use lib.ListN.{length}
 use Rattle.room_write.specs.Writing.{RoomFor, Put}
 use Rattle.register.specs.Texts.{rowsTo}
-use Rattle.mend.specs.Report.{reportOf}
+use Rattle.mend_report.specs.NumberedReport.{numberedReport}
 use Rattle.room_write.proofs.Writing.{put-none, put-start}
 use Rattle.register.proofs.TextRows.{no-rows}
 use Rattle.room_write.proofs.RowByRow.{row-put, rows-fit, row-fits}
-use Rattle.mend.proofs.Report.{rowAt, told-row, kept-row, report-all}
+use Rattle.mend_report.proofs.NumberedReport.{rowAt, told-row, kept-row, report-all}
 use Rattle.mend_report.proofs.ReportPut.{report-fits}
 use borrow.Author.Needs.{needs}
 use Rattle.mend_report.proofs.put_report.Statement.{statement}
@@ -93,7 +93,7 @@ returns : tie.Need-returns Inv-loop μ-loop
 returns c =
     let args = c .before .before .before .before .args in
     let loop = c .before .loop in
-    put-start (args .room .now) (reportOf (args .fates .now))
+    put-start (args .room .now) (numberedReport (args .fates .now))
     (subst (λ u. Put (args .room .now) 0 u (loop .end) (loop .room))
     (report-all (args .fates .now) (loop .next) (omega arith)) (loop .inv .2)) .1
 

@@ -1,6 +1,6 @@
 -- `put_row` puts the pieces of a row one behind the other.
 use native.Mathlib.Omega.{arith}
-use Rattle.mend.proofs.ReportRow.{row-length}
+use Rattle.mend_report.proofs.NumberedReport.{pieces-length}
 use Rattle.mend_report.proofs.ReportPut.{pieces-put}
 use borrow.Author.Needs.{needs}
 use Rattle.mend_report.proofs.put_row.Statement.{statement}
@@ -9,17 +9,17 @@ use Rattle.mend_report.proofs.put_row.Tie as tie
 put-decimal-requires : tie.Need-put-decimal-requires
 put-decimal-requires c κs =
     let args = c .before .before .args in
-    omega (arith, row-length (args .line) (args .fate))
+    omega (arith, pieces-length (args .line) (args .fate))
 
 put-fate-requires : tie.Need-put-fate-requires
 put-fate-requires c κs =
     let args = c .before .before .before .before .before .before .args in
-    omega (arith, row-length (args .line) (args .fate))
+    omega (arith, pieces-length (args .line) (args .fate))
 
 put-decimal-requires-2 : tie.Need-put-decimal-requires-2
 put-decimal-requires-2 c κs =
     let args = c .before .before .before .before .before .before .before .before .before .before .args in
-    omega (arith, row-length (args .line) (args .fate))
+    omega (arith, pieces-length (args .line) (args .fate))
 
 slice-aggregate-put-word : tie.Need-slice-aggregate-put-word
 slice-aggregate-put-word c = search needs
@@ -28,7 +28,7 @@ put-word-requires : tie.Need-put-word-requires
 put-word-requires c κs =
     let back = c .before .before .before .before .before .before .before .before in
     let args = back .before .before .before .before .before .before .before .args in
-    omega (arith, row-length (args .line) (args .fate))
+    omega (arith, pieces-length (args .line) (args .fate))
 
 same-length : tie.Need-same-length
 same-length c = search needs

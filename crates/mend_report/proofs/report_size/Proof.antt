@@ -5,7 +5,7 @@ use native.Mathlib.Omega.{arith}
 use lib.ListN.{length}
 use Rattle.register.specs.Texts.{rowsTo}
 use Rattle.register.proofs.TextRows.{no-rows, rows-longer}
-use Rattle.mend.proofs.Report.{rowAt, told-row, kept-row, rows-bounded, report-all}
+use Rattle.mend_report.proofs.NumberedReport.{rowAt, told-row, kept-row, rows-bounded, report-all}
 use borrow.Author.Needs.{needs}
 use Rattle.mend_report.proofs.report_size.Statement.{statement}
 use Rattle.mend_report.proofs.report_size.Tie as tie

@@ -1,7 +1,7 @@
 -- `row_size` is the size of a row: two numbers, the word with its tabs, and one byte more.
 use native.Mathlib.Omega.{arith}
 use Rattle.register.proofs.Digits.{ten-digits}
-use Rattle.mend.proofs.ReportRow.{field-small, row-length}
+use Rattle.mend_report.proofs.NumberedReport.{field-small, pieces-length}
 use borrow.Author.Needs.{needs}
 use Rattle.mend_report.proofs.row_size.Statement.{statement}
 use Rattle.mend_report.proofs.row_size.Tie as tie
@@ -33,7 +33,7 @@ add-result-3 c =
 returns : tie.Need-returns
 returns c =
     let args = c .before .before .before .args in
-    omega (arith, row-length (args .line) (args .fate))
+    omega (arith, pieces-length (args .line) (args .fate))
 
 pub row-size-spec : {M : Type 1} → statement M
 row-size-spec =

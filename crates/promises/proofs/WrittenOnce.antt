@@ -1,10 +1,11 @@
--- The demands leave one listing, one reason and one sheet's codes: what says what `WrittenDemands` asks is written in one way only. So
--- nothing that a row or a sheet says can be left out there unseen.
+-- The demands leave one listing, one reason, and one sheet's codes and totals: what says what `WrittenDemands` asks is written in one
+-- way only. So nothing that a row or a sheet says can be left out there unseen.
 use mathlib.Core.List.{List, [], _++_}
 use mathlib.Core.Logic.{inl, inr, _⊎_}
-use mathlib.Core.Path.{refl, _≡_, ap, ap₂, sym, _∙_}
-use Prim.Native.Nat.{ℕ, _<_}
+use mathlib.Core.Path.{refl, _≡_, ap, ap₂, subst, sym, _∙_}
+use Prim.Native.Nat.{ℕ, _≤_, _<_}
 use native.Mathlib.Omega.{arith}
+use lib.Dec.{T, eqb}
 use lib.ListN.{length, getD}
 use Rattle.game.specs.Book.{Listed, bookOf}
 use Rattle.game.specs.Label.{Verdict, falls, stands, is-open}
@@ -13,12 +14,13 @@ use Rattle.game.specs.Reason.{InReason}
 use Rattle.game.specs.declared.Kind.{Kind}
 use Rattle.game.specs.declared.Kind.the-variants.{Idle, Felling, Delaying, Standoff}
 use Rattle.game.proofs.BookDemands.{demand-2}
+use Rattle.game.proofs.Count.{count-mono}
 use Rattle.game.proofs.Verdict.{verdict, verdict-means}
 use Rattle.register.specs.Register.{Register, Valid, book, numbers, objectorNumbers, targetNumbers, objectorsOf, targetsOf}
 use Rattle.register.proofs.Order.{marks-counted, objectors-counted, register-in-order}
 use Rattle.register.proofs.TextRows.{rows-same}
 use Rattle.listing.specs.Rows.{header, statementRow, objectionRow}
-use Rattle.sheet.specs.Sheet.{codeAt}
+use Rattle.sheet.specs.Sheet.{codeAt, codes, total}
 use Rattle.promises.specs.WrittenDemands.{StatementRowSays, ObjectionRowSays, ListingSays, ReasonSays, SheetSays}
 use Rattle.promises.proofs.SaysOnce.{label-says-once, length-says-once, kind-says-once}
 
@@ -104,9 +106,27 @@ module _ (R : Register) (valid : Valid R) where
       go k i (inr (n, e)) (inl (p, r)) = absurd (n p)
       go k i (inr (n, e)) (inr (m, f)) = e ∙ sym f
 
-  pub sheet-says-once : (sheet sheet′ totals totals′ : List ℕ) → SheetSays R sheet totals → SheetSays R sheet′ totals′ → (x : ℕ)
+  -- the codes of a sheet, and so the totals beside it
+  code-once : (sheet sheet′ totals totals′ : List ℕ) → SheetSays R sheet totals → SheetSays R sheet′ totals′ → (x : ℕ)
       → x < length (R .statements) → codeAt sheet x ≡ codeAt sheet′ x
-  sheet-says-once sheet sheet′ totals totals′ s s′ x h =
+  code-once sheet sheet′ totals totals′ s s′ x h =
       let m = verdict-means (book R) x (listed x h) in
       label-says-once (book R) x (codeAt sheet x) (verdict (book R) x) m (s .label-says x h)
       ∙ sym (label-says-once (book R) x (codeAt sheet′ x) (verdict (book R) x) m (s′ .label-says x h))
+
+  no-more : (sheet sheet′ : List ℕ) → ((x : ℕ) → x < length (R .statements) → codeAt sheet x ≡ codeAt sheet′ x) → (c : ℕ)
+      → total sheet (length (R .statements)) c ≤ total sheet′ (length (R .statements)) c
+  unfolding total
+  no-more sheet sheet′ e c =
+      count-mono (λ x. eqb (codeAt sheet x) c) (λ x. eqb (codeAt sheet′ x) c) (length (R .statements))
+      (λ x h t. subst (λ a. T (eqb a c)) (e x h) t)
+
+  pub sheet-says-once : (sheet sheet′ totals totals′ : List ℕ) → SheetSays R sheet totals → SheetSays R sheet′ totals′
+      → ((x : ℕ) → x < length (R .statements) → codeAt sheet x ≡ codeAt sheet′ x)
+      × ((c : ℕ) → c < codes → getD totals c 0 ≡ getD totals′ c 0)
+  sheet-says-once sheet sheet′ totals totals′ s s′ =
+      let e = code-once sheet sheet′ totals totals′ s s′ in
+      let f = code-once sheet′ sheet totals′ totals s′ s in (
+        e,
+        λ c h. omega (arith, s .counts c h, s′ .counts c h, no-more sheet sheet′ e c, no-more sheet′ sheet f c),
+      )

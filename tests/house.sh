@@ -1,9 +1,9 @@
 #!/usr/bin/env bash
 # The rules of the house. A crate with a bare noun for its name is a meaning: it has no function, and stands on meanings alone.
 # Every other crate but `batqemulo`, which is the product, begins with such a noun or with one of a few more. crates.txt lists
-# what is in crates/. No module of specs/ and no definition has its name in two crates, and nothing is left of the names that
-# crates had before. The very last line is 'N passed, M failed'.
-# shellcheck disable=SC1091,SC2317 # tally.sh is there, and its `try` calls the functions
+# what is in crates/. No module of specs/ and no definition has its name in two crates, no line is too long, and nothing is left
+# of the names that crates had before. The very last line is 'N passed, M failed'.
+# shellcheck disable=SC1091,SC2154,SC2317 # tally.sh is there, has `built`, and its `try` calls the functions
 set -u
 cd "$(dirname "$0")/.." || exit 1
 . tests/tally.sh
@@ -83,6 +83,18 @@ modules_apart() { modules | apart; }
 # `Refuses` is one idea, said of texts and of lists (docs/DECISIONS.md)
 definitions_apart() { definitions | grep -v -x 'Refuses lists' | apart; }
 
+# short_lines FOLDER: no line of Rattle or of a proof in it has more than 130 characters
+short_lines() {
+    ! LC_ALL=C.UTF-8 grep -r -n -E --include='*.rt' --include='*.antt' --include='*.edit' '^.{131,}' "$1"
+}
+
+# long_line_seen: one of 131 characters would be seen, and one of 130, of whatever bytes, is none
+long_line_seen() {
+    local folder=$built/lines
+    mkdir -p "$folder" && printf '≤%.0s' {1..130} >"$folder/long.rt" && short_lines "$folder" &&
+        printf '≤' >>"$folder/long.rt" && ! short_lines "$folder"
+}
+
 # meant_by NAME: the lines in which the name can only be that of a crate: a path, or the end of a branch in a drawn tree; a
 # compound, wherever it stands, but for `in_c`, which is a function too; the words of PROMISES.md for whose an edit is; code
 meant_by() {
@@ -125,6 +137,9 @@ try 'there are modules' test "$(modules | wc -l)" -ge 60
 try 'no module has its name in two crates' modules_apart
 try 'there are definitions' test "$(definitions | wc -l)" -ge 350
 try 'no definition has its name in two crates' definitions_apart
+
+try 'no line is too long' short_lines crates
+try 'a line that is too long would be seen' long_line_seen
 
 try 'there are files' test "${#files[@]}" -ge 500
 try 'there are names that are gone' test "${#gone[@]}" -ge 44

@@ -1,5 +1,5 @@
--- The demands leave one listing, one reason, and one sheet's codes and totals: what says what `WrittenDemands` asks is written in one
--- way only. So nothing that a row or a sheet says can be left out there unseen.
+-- The demands leave one listing, one reason, and one sheet's codes and totals: what says what `WrittenDemands` asks is written in
+-- one way only. So nothing that a row or a sheet says can be left out there unseen.
 use mathlib.Core.List.{List, [], _++_}
 use mathlib.Core.Logic.{inl, inr, _⊎_}
 use mathlib.Core.Path.{refl, _≡_, ap, ap₂, subst, sym, _∙_}

@@ -4,24 +4,23 @@ use Prim.Native.Nat.{ℕ}
 use Rattle.lists.specs.declared.ListsFault.{ListsFault}
 use Rattle.lists.specs.declared.ListsFault.the-variants.{Unequal, Statements, Objections, Mark, Place, Repeated}
 
-abbrev pub listsFaultNumber : ListsFault → ℕ
+-- a row of the table: the number, and the place
+abbrev pub listsFaultRow : ListsFault → ℕ × ℕ
 -- objector and target lists unequal in length
-listsFaultNumber Unequal = 11
+listsFaultRow Unequal = (11, 0)
 -- over 1,024 marks
-listsFaultNumber Statements = 6
+listsFaultRow Statements = (6, 0)
 -- over 4,096 pairs
-listsFaultNumber Objections = 9
+listsFaultRow Objections = (9, 0)
 -- mark other than 0 or 1
-listsFaultNumber (Mark entry) = 12
+listsFaultRow (Mark entry) = (12, entry)
 -- a place outside the mark list
-listsFaultNumber (Place entry) = 13
+listsFaultRow (Place entry) = (13, entry)
 -- same objector and target as earlier
-listsFaultNumber (Repeated entry) = 8
+listsFaultRow (Repeated entry) = (8, entry)
+
+abbrev pub listsFaultNumber : ListsFault → ℕ
+listsFaultNumber fault = listsFaultRow fault .0
 
 abbrev pub listsFaultPlace : ListsFault → ℕ
-listsFaultPlace Unequal = 0
-listsFaultPlace Statements = 0
-listsFaultPlace Objections = 0
-listsFaultPlace (Mark entry) = entry
-listsFaultPlace (Place entry) = entry
-listsFaultPlace (Repeated entry) = entry
+listsFaultPlace fault = listsFaultRow fault .1

@@ -5,33 +5,29 @@ use Rattle.register.specs.declared.TextFault.{TextFault}
 use Rattle.register.specs.declared.TextFault.the-variants.{TooLong, Unended, Spoiled, Late, Issued, Statements, Unknown}
 use Rattle.register.specs.declared.TextFault.the-variants.{Repeated, Objections}
 
-abbrev pub textFaultNumber : TextFault → ℕ
+-- a row of the table: the number, and the place
+abbrev pub textFaultRow : TextFault → ℕ × ℕ
 -- text over 65,535 bytes
-textFaultNumber TooLong = 1
+textFaultRow TooLong = (1, 0)
 -- text not empty and its last byte not 10
-textFaultNumber Unended = 2
+textFaultRow Unended = (2, 0)
 -- spoiled line
-textFaultNumber (Spoiled line) = 3
+textFaultRow (Spoiled line) = (3, line)
 -- statement line after an objection line
-textFaultNumber (Late line) = 4
+textFaultRow (Late line) = (4, line)
 -- statement number already issued
-textFaultNumber (Issued line) = 5
+textFaultRow (Issued line) = (5, line)
 -- the 1,025th statement
-textFaultNumber (Statements line) = 6
+textFaultRow (Statements line) = (6, line)
 -- objector or target not on the register
-textFaultNumber (Unknown line) = 7
+textFaultRow (Unknown line) = (7, line)
 -- same objector and target as earlier
-textFaultNumber (Repeated line) = 8
+textFaultRow (Repeated line) = (8, line)
 -- the 4,097th objection
-textFaultNumber (Objections line) = 9
+textFaultRow (Objections line) = (9, line)
+
+abbrev pub textFaultNumber : TextFault → ℕ
+textFaultNumber fault = textFaultRow fault .0
 
 abbrev pub textFaultPlace : TextFault → ℕ
-textFaultPlace TooLong = 0
-textFaultPlace Unended = 0
-textFaultPlace (Spoiled line) = line
-textFaultPlace (Late line) = line
-textFaultPlace (Issued line) = line
-textFaultPlace (Statements line) = line
-textFaultPlace (Unknown line) = line
-textFaultPlace (Repeated line) = line
-textFaultPlace (Objections line) = line
+textFaultPlace fault = textFaultRow fault .1

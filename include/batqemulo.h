@@ -1,10 +1,14 @@
 /*
  * Batqemulo: which statements of a register stand, fall or are open, and how many turns of argument
- * that takes. This is the whole interface for C and C++. Link libbatqemulo.a.
+ * that takes. This is the whole interface for C and C++. Link libbatqemulo.so or libbatqemulo.a.
+ * The rules of registers, in words, are in docs/RULES.md, which is installed as
+ * doc/batqemulo/RULES.md.
  *
  * What holds for every call:
  *
- * - Any input is either accepted or refused. There is nothing to check before a call.
+ * - Any input is either accepted or refused. There is nothing to check before a call, but look at
+ *   `refusal` after each: where it is not 0, `value` is a place and not an answer, and a line 2 is
+ *   easily taken for the label 2.
  * - A refusal leaves every room as found. An accepted call writes its answer at the start of each
  *   room and leaves what lies beyond the answer as found.
  * - A length beside a pointer counts entries, not bytes. A pointer may be NULL where its length
@@ -26,6 +30,25 @@
 
 #ifdef __cplusplus
 extern "C" {
+#endif
+
+/* The version. Its parts have their place here alone; by them it is a text, such as "1.2.3", and a
+ * number to compare, such as 10203. */
+#define BATQEMULO_VERSION_MAJOR 0
+#define BATQEMULO_VERSION_MINOR 2
+#define BATQEMULO_VERSION_PATCH 0
+#define BATQEMULO_VERSION                                                                          \
+    BATQEMULO_PARTS(BATQEMULO_VERSION_MAJOR, BATQEMULO_VERSION_MINOR, BATQEMULO_VERSION_PATCH)
+#define BATQEMULO_VERSION_NUMBER                                                                   \
+    (BATQEMULO_VERSION_MAJOR * 10000 + BATQEMULO_VERSION_MINOR * 100 + BATQEMULO_VERSION_PATCH)
+#define BATQEMULO_PARTS(major, minor, patch) BATQEMULO_JOIN(major, minor, patch)
+#define BATQEMULO_JOIN(major, minor, patch) #major "." #minor "." #patch
+
+/* Where the compiler can, it warns of a call whose answer nobody looks at. */
+#if defined(__GNUC__)
+#define BATQEMULO_CHECKED __attribute__((warn_unused_result))
+#else
+#define BATQEMULO_CHECKED
 #endif
 
 /* The largest register that is accepted. */
@@ -148,18 +171,18 @@ enum batqemulo_kind {
  * BATQEMULO_MAX_LISTING_BYTES, and nothing is written behind its last byte 10.
  * Refusals: 1, 2, then 3 to 9 line by line, then 10. */
 batqemulo_answer batqemulo_listing(const uint8_t *text, size_t text_len, uint8_t *room,
-                                   size_t room_len);
+                                   size_t room_len) BATQEMULO_CHECKED;
 
 /* Writes the label of each statement, in the order of the statement lines: one entry for each.
  * Refusals: 1, 2, then 3 to 9 line by line, then 10. */
 batqemulo_answer batqemulo_text_labels(const uint8_t *text, size_t text_len, uint8_t *labels,
-                                       size_t labels_len);
+                                       size_t labels_len) BATQEMULO_CHECKED;
 
 /* Writes the length of each statement, in the order of the statement lines: one entry for each. An
  * open statement has BATQEMULO_NO_LENGTH.
  * Refusals: 1, 2, then 3 to 9 line by line, then 10. */
 batqemulo_answer batqemulo_text_lengths(const uint8_t *text, size_t text_len, uint16_t *lengths,
-                                        size_t lengths_len);
+                                        size_t lengths_len) BATQEMULO_CHECKED;
 
 /* Writes the sheet: two bits for each statement, in the order of the statement lines, four to a
  * byte, the first in the lowest bits. Their code is the label of the statement; 3 is unused. Spare
@@ -169,7 +192,8 @@ batqemulo_answer batqemulo_text_lengths(const uint8_t *text, size_t text_len, ui
  * how many fall.
  * Refusals: 1, 2, then 3 to 9 line by line, then 10 if either room is too short. */
 batqemulo_answer batqemulo_sheet(const uint8_t *text, size_t text_len, uint8_t *sheet,
-                                 size_t sheet_len, uint32_t *totals, size_t totals_len);
+                                 size_t sheet_len, uint32_t *totals,
+                                 size_t totals_len) BATQEMULO_CHECKED;
 
 /* Updates a sheet and its totals, for a register of which marks or objections have changed, but not
  * the number and order of its statements. The rooms hold the old sheet and the old totals; they get
@@ -187,7 +211,8 @@ batqemulo_answer batqemulo_sheet(const uint8_t *text, size_t text_len, uint8_t *
  * Refusals: 1, 2, then 3 to 9 line by line, then 16, then 10 if totals_len is below
  * BATQEMULO_TOTALS. */
 batqemulo_answer batqemulo_sheet_update(const uint8_t *text, size_t text_len, uint8_t *sheet,
-                                        size_t sheet_len, uint32_t *totals, size_t totals_len);
+                                        size_t sheet_len, uint32_t *totals,
+                                        size_t totals_len) BATQEMULO_CHECKED;
 
 /* Writes the line of argument of the statement with this number, as the numbers of the statements
  * on it: the asked statement itself, then, while the length is above 0, the objector of the last
@@ -198,7 +223,7 @@ batqemulo_answer batqemulo_sheet_update(const uint8_t *text, size_t text_len, ui
  * Numbers from 1 to 99999999 stand for themselves; 0 and all others are on no statement line.
  * Refusals: 1, 2, then 3 to 9 line by line, then 14, 10. */
 batqemulo_answer batqemulo_text_line(const uint8_t *text, size_t text_len, uint32_t number,
-                                     uint32_t *line, size_t line_len);
+                                     uint32_t *line, size_t line_len) BATQEMULO_CHECKED;
 
 /* Writes the reason for the statement with this number, as rows of the listing: the statement's
  * own, then those of the objections in its reason, in the order of the objection lines. These are
@@ -215,14 +240,14 @@ batqemulo_answer batqemulo_text_line(const uint8_t *text, size_t text_len, uint3
  * Numbers from 1 to 99999999 stand for themselves; 0 and all others are on no statement line.
  * Refusals: 1, 2, then 3 to 9 line by line, then 14, 10. */
 batqemulo_answer batqemulo_reason(const uint8_t *text, size_t text_len, uint32_t number,
-                                  uint8_t *room, size_t room_len);
+                                  uint8_t *room, size_t room_len) BATQEMULO_CHECKED;
 
 /* The class exercise: does the statement with this number stand within so many turns, does it fall
  * within so many. There is no room; the answer's value is BATQEMULO_STANDS or BATQEMULO_FALLS if
  * that is the statement's label and its length is at most turns, else BATQEMULO_OPEN for neither.
  * Refusals: 1, 2, then 3 to 9 line by line, then 14, 15. */
 batqemulo_answer batqemulo_text_exercise(const uint8_t *text, size_t text_len, uint32_t number,
-                                         uint32_t turns);
+                                         uint32_t turns) BATQEMULO_CHECKED;
 
 /* Mends a text: writes a register that every other call accepts into the room, and beside it a
  * report of what was done. What is a register already is written byte for byte, and its report is
@@ -264,7 +289,7 @@ batqemulo_answer batqemulo_text_exercise(const uint8_t *text, size_t text_len, u
  * Refusals: 1, then 10 if either room is too short. */
 batqemulo_answer batqemulo_mend(const uint8_t *text, size_t text_len, uint8_t *room,
                                 size_t room_len, uint8_t *report, size_t report_len,
-                                uint32_t *report_written);
+                                uint32_t *report_written) BATQEMULO_CHECKED;
 
 /*
  * Registers handed over as lists of pairs.
@@ -291,7 +316,7 @@ batqemulo_answer batqemulo_mend(const uint8_t *text, size_t text_len, uint8_t *r
 batqemulo_answer batqemulo_pairs_labels(const uint8_t *marks, size_t marks_len,
                                         const uint32_t *objectors, size_t objectors_len,
                                         const uint32_t *targets, size_t targets_len,
-                                        uint8_t *labels, size_t labels_len);
+                                        uint8_t *labels, size_t labels_len) BATQEMULO_CHECKED;
 
 /* Writes the length of each statement, in the order of the marks: marks_len entries. It is the
  * least number of turns that suffices for the winner; an open statement has BATQEMULO_NO_LENGTH.
@@ -299,7 +324,7 @@ batqemulo_answer batqemulo_pairs_labels(const uint8_t *marks, size_t marks_len,
 batqemulo_answer batqemulo_pairs_lengths(const uint8_t *marks, size_t marks_len,
                                          const uint32_t *objectors, size_t objectors_len,
                                          const uint32_t *targets, size_t targets_len,
-                                         uint16_t *lengths, size_t lengths_len);
+                                         uint16_t *lengths, size_t lengths_len) BATQEMULO_CHECKED;
 
 /* Writes the kind and the length of each objection, in the order of the pairs: as many entries as
  * there are pairs, in each of the two rooms. The length of a felling or delaying objection is 1
@@ -308,7 +333,8 @@ batqemulo_answer batqemulo_pairs_lengths(const uint8_t *marks, size_t marks_len,
 batqemulo_answer batqemulo_pairs_kinds(const uint8_t *marks, size_t marks_len,
                                        const uint32_t *objectors, size_t objectors_len,
                                        const uint32_t *targets, size_t targets_len, uint8_t *kinds,
-                                       size_t kinds_len, uint16_t *lengths, size_t lengths_len);
+                                       size_t kinds_len, uint16_t *lengths,
+                                       size_t lengths_len) BATQEMULO_CHECKED;
 
 /* Writes the line of argument of the statement at this place, as the places of the statements on
  * it: the asked statement itself, then, while the length is above 0, the objector of the last one
@@ -319,7 +345,7 @@ batqemulo_answer batqemulo_pairs_kinds(const uint8_t *marks, size_t marks_len,
 batqemulo_answer batqemulo_pairs_line(const uint8_t *marks, size_t marks_len,
                                       const uint32_t *objectors, size_t objectors_len,
                                       const uint32_t *targets, size_t targets_len, uint32_t place,
-                                      uint32_t *line, size_t line_len);
+                                      uint32_t *line, size_t line_len) BATQEMULO_CHECKED;
 
 /* The class exercise: does the statement at this place stand within so many turns, does it fall
  * within so many. There is no room; the answer's value is BATQEMULO_STANDS or BATQEMULO_FALLS if
@@ -328,7 +354,7 @@ batqemulo_answer batqemulo_pairs_line(const uint8_t *marks, size_t marks_len,
 batqemulo_answer batqemulo_pairs_exercise(const uint8_t *marks, size_t marks_len,
                                           const uint32_t *objectors, size_t objectors_len,
                                           const uint32_t *targets, size_t targets_len,
-                                          uint32_t place, uint32_t turns);
+                                          uint32_t place, uint32_t turns) BATQEMULO_CHECKED;
 
 /*
  * Registers handed over as moves of the game.
@@ -342,13 +368,15 @@ batqemulo_answer batqemulo_pairs_exercise(const uint8_t *marks, size_t marks_len
  * Refusals: 11, 6, 9, 12, 13, 8, 10. */
 batqemulo_answer batqemulo_moves_labels(const uint8_t *marks, size_t marks_len,
                                         const uint32_t *from, size_t from_len, const uint32_t *to,
-                                        size_t to_len, uint8_t *labels, size_t labels_len);
+                                        size_t to_len, uint8_t *labels,
+                                        size_t labels_len) BATQEMULO_CHECKED;
 
 /* Writes the length of each statement, or BATQEMULO_NO_LENGTH, in the order of the marks: marks_len
  * entries. Refusals: 11, 6, 9, 12, 13, 8, 10. */
 batqemulo_answer batqemulo_moves_lengths(const uint8_t *marks, size_t marks_len,
                                          const uint32_t *from, size_t from_len, const uint32_t *to,
-                                         size_t to_len, uint16_t *lengths, size_t lengths_len);
+                                         size_t to_len, uint16_t *lengths,
+                                         size_t lengths_len) BATQEMULO_CHECKED;
 
 #ifdef __cplusplus
 }

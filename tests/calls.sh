@@ -4,7 +4,7 @@
 # held, word by word, against what tests/calls.txt makes of them. One that asks something of its caller, promises anything else or
 # nothing, has no row, or has no theorem that its contract is its promise, fails; so does an edit that PROMISES.md names and no
 # crate has. Wrong twins of the sources are held to the same, and each must fail. The very last line is 'N passed, M failed'.
-# shellcheck disable=SC1091,SC2154,SC2317,SC2016 # tally.sh is there, and its `try` calls the functions; backquotes are meant
+# shellcheck disable=SC2016 # backquotes are meant
 set -u
 cd "$(dirname "$0")/.." || exit 1
 . tests/tally.sh

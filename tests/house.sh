@@ -3,7 +3,6 @@
 # Every other crate but `batqemulo`, which is the product, begins with such a noun or with one of a few more. crates.txt lists
 # what is in crates/. No module of specs/ and no definition has its name in two crates, no line is too long, and nothing is left
 # of the names that crates had before. The very last line is 'N passed, M failed'.
-# shellcheck disable=SC1091,SC2154,SC2317 # tally.sh is there, has `built`, and its `try` calls the functions
 set -u
 cd "$(dirname "$0")/.." || exit 1
 . tests/tally.sh

@@ -1,6 +1,6 @@
 #!/usr/bin/env bash
-# The outside tests of the mending program: what it prints and what it reports, where the report goes
-# and what becomes of a file that is there, reports that cannot be written, and the trials that every
+# The outside tests of the mending program: what it prints and what it reports, where the report goes,
+# that a file which is there stays as it is, reports that cannot be written, and the trials that every
 # program goes through. tests/run starts it, after it has built the program and the second solver. The
 # very last line is 'N passed, M failed'.
 set -u
@@ -8,6 +8,7 @@ cd "$(dirname "$0")/.." || exit 1
 . tests/programs.sh
 . tests/tally.sh
 tried=mend
+used='[REPORT] <register'
 . tests/trials.sh
 
 # report: the file that the program is given, if nothing else is said
@@ -19,17 +20,22 @@ reports() {
     cmp "$report" "$work/right.report"
 }
 
+# fresh COMMAND..: the command, while no report is there
+fresh() {
+    rm -rf "$report"
+    "$@"
+}
+
 # mends FILE: text and report are the second solver's
 mends() {
-    rm -rf "$report"
-    agrees "$1" && reports
+    fresh agrees "$1" && reports
 }
 
 # writes WORDS MENDED REPORT: a text that is typed is mended to this one, with this report
 writes() {
     typed "$2" >"$work/right"
     typed "$3" >"$work/right.report"
-    typed "$1" | prints "$work/right" && reports
+    typed "$1" | fresh prints "$work/right" && reports
 }
 
 # tells_all FILE: without a word, the report goes to standard error
@@ -57,28 +63,33 @@ slow_listener() {
 
 # unreported COMMAND..: the command passes, and no report is made
 unreported() {
-    rm -rf "$report"
-    "$@" && [ ! -e "$report" ]
+    fresh "$@" && [ ! -e "$report" ]
 }
 
-# untouched COMMAND..: the command passes, and what is in the place of the report stays
-untouched() {
-    printf 'kept\n' >"$report"
-    "$@" && printf 'kept\n' | cmp - "$report"
+# state NAME: all that could change where something is
+state() {
+    stat -c '%N %F %a %u %i %s %Y %Z' "$1" && if [ -f "$1" ]; then sha256sum "$1"; fi
 }
 
-# over FILE: the report takes the place of something longer
-over() {
-    head -c 2000000 /dev/zero >"$report"
-    agrees "$1" && reports
+# stays NAME: what is there is named and stays as it is, and nothing is read or printed
+stays() {
+    local words=("$1") before
+    before=$(state "$1")
+    {
+        ask >"$work/out" 2>"$work/said"
+        cat >"$work/left"
+    } <examples/export.txt
+    cat "$work/said"
+    [ ! -s "$work/out" ] && cmp "$work/left" examples/export.txt &&
+        printf 'mend: %s: File exists\n' "$1" | cmp - "$work/said" && [ "$(state "$1")" = "$before" ]
 }
 
-# over_a_link FILE: the file to which a link leads gets the report
-over_a_link() {
-    rm -rf "$report" "$work/led"
-    head -c 5000 /dev/zero >"$work/led"
-    ln -s led "$report"
-    agrees "$1" && reports && [ -L "$report" ] && cmp "$work/led" "$work/right.report"
+# as_typed: the command by which a register was once lost loses nothing
+as_typed() {
+    local said
+    cp examples/quilt.txt "$work/my.txt"
+    said=$(./mend "$work/my.txt" </dev/null 2>&1)
+    [ "$said" = "mend: $work/my.txt: File exists" ] && cmp "$work/my.txt" examples/quilt.txt
 }
 
 # named NAME: the file with this name gets the report
@@ -97,37 +108,28 @@ for_all_to_read() {
     (umask 022 && mends examples/export.txt) && [ "$(stat -c %a "$report")" = 644 ]
 }
 
-# into_a_queue FILE: the report goes to a queue, and is taken from it late
-into_a_queue() {
-    local status
-    rm -rf "$report"
-    mkfifo "$report"
-    { sleep 0.3 && cat "$report" >"$work/taken"; } &
-    agrees "$1"
-    status=$?
-    wait
-    rm "$report"
-    cmp "$work/taken" "$work/right.report" && [ "$status" -eq 0 ]
-}
-
-# not_written NAME FILE: the report cannot be written there; nothing is printed, and something is said
-not_written() {
+# not_made NAME: the report cannot be made there, which is said; nothing is read or printed
+not_made() {
     local words=("$1") status
-    ask <"$2" >"$work/out" 2>"$work/said"
-    status=$?
+    {
+        ask >"$work/out" 2>"$work/said"
+        status=$?
+        cat >"$work/left"
+    } <examples/export.txt
     cat "$work/said"
-    [ ! -s "$work/out" ] && [ "$(wc -l <"$work/said")" -eq 1 ] &&
-        grep -q '^mend: report: .' "$work/said" && [ "$status" -eq 0 ]
+    [ ! -s "$work/out" ] && cmp "$work/left" examples/export.txt && [ "$(wc -l <"$work/said")" -eq 1 ] &&
+        grep -q "^mend: ${2-$1}: ." "$work/said" && [ "$status" -eq 0 ]
 }
 
-# report_fills_up FILE: a disk is full after 70 KiB of the report
+# report_fills_up FILE: a disk is full after 70 KiB of the report; nothing is printed, and no part of it is left
 report_fills_up() {
-    rm -rf "$report"
     (
         trap '' XFSZ
         ulimit -f 70
-        not_written "$report" "$1"
+        ask <"$1" >"$work/out" 2>"$work/said"
     )
+    cat "$work/said"
+    [ ! -s "$work/out" ] && [ "$(cat "$work/said")" = 'mend: report: File too large' ]
 }
 
 # still_reports COMMAND.. FILE: the command passes, and the report is there
@@ -135,11 +137,6 @@ still_reports() {
     rm -rf "$report"
     second <"${!#}" >"$work/right"
     "$@" && reports
-}
-
-usage_told() {
-    usage examples/export.txt "$report" more
-    [ "$(cat "$work/said")" = 'usage: mend [REPORT] <register' ]
 }
 
 # mended_twice FILE: what was mended stays as it is
@@ -150,11 +147,11 @@ mended_twice() {
 
 # then_listed FILE: what was mended is a register
 then_listed() {
-    ask <"$1" | "${start_list[@]}" target/bin/program_list | head -n 1 | grep -q '^REGISTER'
+    fresh ask <"$1" | "${start_list[@]}" target/bin/program_list | head -n 1 | grep -q '^REGISTER'
 }
 
 as_in_the_tutorial() {
-    ./mend "$report" <examples/export.txt | cmp - examples/export.mended &&
+    fresh ./mend "$report" <examples/export.txt | cmp - examples/export.mended &&
         cmp "$report" examples/export.report
 }
 
@@ -198,10 +195,9 @@ for text in examples/*.txt "$work/01"/*.txt; do
 done
 
 try '65,535 bytes' mends "$work/most"
-try '65,535 bytes, the last one late' last_byte_late "$work/most"
-try '65,536 bytes' refuses 1 0 <"$work/over"
+try '65,535 bytes, the last one late' fresh last_byte_late "$work/most"
+try '65,536 bytes' fresh refuses 1 0 <"$work/over"
 try '65,536 bytes, and no report is made' unreported far_too_long
-try '65,536 bytes, and an old report stays' untouched far_too_long
 try '65,536 bytes, and no word' without_word far_too_long
 try 'an input without an end' unreported endless
 try 'a register at the limits' mends "$work/longest"
@@ -210,44 +206,54 @@ try '65,535 blank lines' mends "$work/blank"
 try 'their report has 1,037,454 bytes' bytes "$report" 1037454
 try '65,535 blank lines, with the report on standard error' tells_all "$work/blank"
 try '65,535 blank lines, and the report is taken slowly' slow_listener "$work/blank"
-try '65,535 blank lines, with the report into a queue' into_a_queue "$work/blank"
 
-try 'over a longer report' over examples/export.txt
-try 'over a longer report, with nothing to report' over examples/game.txt
-try 'over a link' over_a_link examples/export.txt
+cp examples/quilt.txt "$work/there"
+cp examples/quilt.txt "$work/shut" && chmod 0 "$work/shut"
+: >"$work/empty"
+mkdir -p "$work/folder"
+ln -sfn there "$work/link"
+ln -sfn nowhere "$work/dangling"
+[ -p "$work/queue" ] || mkfifo "$work/queue"
+for name in there shut empty folder link dangling queue; do
+    try "a report where something is: $name" stays "$work/$name"
+done
+try 'a report where a device is' stays /dev/full
+try 'a report where the folder itself is' stays .
+try 'nothing came of the dangling link' test ! -e "$work/nowhere"
+try 'the command by which a register was once lost' as_typed
 try 'a new report may be read by all' for_all_to_read
 try 'a name with strange bytes' named "$work/a b"$'\n\xff'
 try 'a name of 4,095 bytes' named "$(of_length 4095)"
-try 'a name of 4,096 bytes' unreported not_written "$(of_length 4096)" examples/export.txt
-try 'a name of 70,000 bytes' unreported not_written "$(of_length 70000)" examples/export.txt
-try 'an empty name' not_written '' examples/export.txt
-try 'a folder for the report' not_written examples examples/export.txt
-try 'a folder for an empty report' not_written examples examples/game.txt
-try 'a file for the folder of the report' not_written examples/game.txt/report examples/export.txt
-try 'no folder for the report' not_written "$work/none/report" examples/export.txt
-try 'a full device for the report' not_written /dev/full examples/export.txt
-try 'a full device for an empty report' asking /dev/full agrees examples/game.txt
-try 'a disk that fills up with the report' report_fills_up "$work/blank"
+try 'a name of 4,096 bytes' unreported not_made "$(of_length 4096)"
+try 'a name of 70,000 bytes' unreported not_made "$(of_length 70000)" report
+try 'an empty name' not_made ''
+try 'a file for the folder of the report' not_made examples/game.txt/report
+try 'no folder for the report' not_made "$work/none/report"
+try 'a disk that fills up with the report' unreported report_fills_up "$work/blank"
+for word in - -- -h --help -report; do
+    try "an option: $word" usage examples/export.txt "$word"
+done
+try 'an option of 5,000 bytes' usage examples/export.txt "-$(head -c 4999 /dev/zero | tr '\0' x)"
+try 'started under another name' another_name
 try 'two words' unreported usage examples/export.txt "$report" more
 try 'two words, of which one is empty' unreported usage examples/export.txt "$report" ''
 try 'three words' unreported usage examples/export.txt "$report" more words
-try 'how it is used' usage_told
 
-try 'an input that comes byte by byte' in_pieces examples/export.txt 1
-try 'a long input that comes in pieces' in_pieces "$work/repeats" 4000
-try 'stopped and continued while it reads' stopped_and_continued examples/export.txt
-try 'a text that is taken slowly' slow_reader "$work/repeats"
+try 'an input that comes byte by byte' fresh in_pieces examples/export.txt 1
+try 'a long input that comes in pieces' fresh in_pieces "$work/repeats" 4000
+try 'stopped and continued while it reads' fresh stopped_and_continued examples/export.txt
+try 'a text that is taken slowly' fresh slow_reader "$work/repeats"
 try 'started as in the tutorial' as_in_the_tutorial
 try 'started from another folder' from_elsewhere
 
 try 'a folder as input' unreported not_read <examples
 try 'no standard input' unreported not_read <&-
-try 'an input that is only to be written' untouched not_read 0>"$work/unread"
+try 'an input that is only to be written' unreported not_read 0>"$work/unread"
 try 'no standard error' still_reports nobody_listens examples/export.txt
 try 'no standard error, and nothing to report' without_word nobody_listens examples/game.txt
 try 'no environment' still_reports without_environment examples/export.txt
 try 'no standard output' still_reports output_closed examples/export.txt
 try 'a full device' still_reports output_full examples/export.txt
-try 'a pipe that is closed' pipe_closed "$work/repeats"
+try 'a pipe that is closed' fresh pipe_closed "$work/repeats"
 
 finish

@@ -3,7 +3,6 @@
 # theorem cited there says more than its hypotheses. Every must-fail edit is cited by a row, of the crate that has it, and no two
 # have one name. README's list of what a reader has to believe is the one that tests/reading makes. The rules are tried themselves
 # on a small house with a fault for each. The very last line is 'N passed, M failed'.
-# shellcheck disable=SC1091,SC2317 # tally.sh is there, and its `try` calls the functions
 set -u
 cd "$(dirname "$0")/.." || exit 1
 . tests/tally.sh

@@ -8,6 +8,7 @@ cd "$(dirname "$0")/.." || exit 1
 . tests/programs.sh
 . tests/tally.sh
 tried=list
+used='<register'
 . tests/trials.sh
 
 # broken_off BYTES: so many bytes come, and no more: whoever writes them is killed
@@ -69,6 +70,11 @@ too_many_objections() {
     { cat "$work/longest" && printf 'O\t1\t1\n'; } | refuses 9 5121
 }
 
+# as_typed: the README's command, with a file's name where none goes, lists nothing
+as_typed() {
+    [ "$(./list examples/deed.txt </dev/null 2>&1)" = 'usage: ./list <register' ]
+}
+
 sound 65535 >"$work/most"
 sound 65536 >"$work/over"
 longest >"$work/longest"
@@ -88,6 +94,13 @@ for listing in "$work/01"/*.listing; do
 done
 
 try 'the first command of the README' first_command
+for word in examples/deed.txt '' - -h --help -- 5; do
+    try "a word: $(printf '%q' "$word")" usage examples/game.txt "$word"
+done
+try 'two words' usage examples/game.txt examples/deed.txt examples/game.txt
+try 'a word of 100,000 bytes' usage examples/game.txt "$(head -c 100000 /dev/zero | tr '\0' x)"
+try 'started under another name' another_name
+try "a file's name where none goes" as_typed
 try 'no input' agrees /dev/null
 try 'an input that comes byte by byte' in_pieces examples/game.txt 1
 try 'a long input that comes in pieces' in_pieces "$work/longest" 4000

@@ -7,12 +7,13 @@ cd "$(dirname "$0")/.." || exit 1
 . tests/programs.sh
 . tests/tally.sh
 tried=reason
+used='NUMBER <register'
 . tests/trials.sh
 
 # words that are no number of 01, on a register where the number that they come near is issued
 no_numbers=('' 0 00 05 007 000000005 100000000 500000000 999999999 4294967301 18446744073709551621
-    +5 -5 ' 5' '5 ' $'5\t' $'5\n' $'\n5' 5.0 '5,' 5a a5 5R 0x5 5e0 5_0 /5 5: $'\xff5' $'5\xff'
-    -- - -h --help 5/6 '5 6' five)
+    +5 ' 5' '5 ' $'5\t' $'5\n' $'\n5' 5.0 '5,' 5a a5 5R 0x5 5e0 5_0 /5 5: $'\xff5' $'5\xff'
+    5/6 '5 6' five 5- 12345678901234567890123456789)
 
 # numbers FILE: those of the statements, in listed order
 numbers() {
@@ -85,6 +86,10 @@ for word in "${no_numbers[@]}"; do
 done
 try 'a number that is not on the register' asking 8 refuses 14 0 <"$work/three"
 try 'any number, of no input' asking 5 refuses 14 0 </dev/null
+for word in -5 - -- -h --help --a-long-option-that-no-number-can-be; do
+    try "no option: $word" usage "$work/three" "$word"
+done
+try 'started under another name' another_name
 try 'no word' usage "$work/three"
 try 'two words' usage "$work/three" 5 6
 try 'two words, of which one is empty' usage "$work/three" 5 ''

@@ -3,8 +3,9 @@
 # that come slowly or cannot be read and outputs that cannot be written.
 # shellcheck shell=bash
 
-# tried: the program, which the script names; words: what it is given behind its name
-: "${tried:?}"
+# tried: the program, and used: the words that its usage has behind its name, which the script says;
+# words: what it is given behind its name
+: "${tried:?}" "${used:?}"
 words=()
 
 # what is put in, what ought to come out, and what does
@@ -161,14 +162,26 @@ endless() {
     yes | refuses 1 0
 }
 
-# usage FILE WORDS..: with these words nothing is printed, and one line says how the program is used
+# usage FILE WORDS..: with these words nothing is read or printed, and one line says how the program is
+# used, by the name with which it was started
 usage() {
     local text=$1 words=("${@:2}") status
-    ask <"$text" >"$work/out" 2>"$work/said"
-    status=$?
+    {
+        ask >"$work/out" 2>"$work/said"
+        status=$?
+        cat >"$work/left"
+    } <"$text"
     cat "$work/out" "$work/said"
-    [ ! -s "$work/out" ] && [ "$(wc -l <"$work/said")" -eq 1 ] &&
-        grep -q "^usage: $tried " "$work/said" && [ "$status" -eq 0 ]
+    [ ! -s "$work/out" ] && cmp "$work/left" "$text" && [ "$status" -eq 0 ] &&
+        printf 'usage: target/bin/program_%s %s\n' "$tried" "$used" | cmp - "$work/said"
+}
+
+# another_name: the usage names the program as it was started, whatever that is
+another_name() {
+    local name=$work/other
+    cp "target/bin/program_$tried" "$name"
+    [ "$("${start_list[@]}" "$name" - - - 2>&1)" = "usage: $name $used" ] &&
+        [ "$("${start_list[@]}" --argv0 'my name' "$name" - - - 2>&1)" = "usage: my name $used" ]
 }
 
 # not_read: standard input cannot be read; nothing is printed, and something is said

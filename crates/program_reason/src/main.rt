@@ -1,7 +1,6 @@
 // Reads a register text from standard input and prints the reason of the statement whose number is the program's one
-// argument, or the one line of a refusal. What is printed is settled by `output`, hence by the library; the rest only moves
-// bytes.
-use libc::STDERR_FILENO;
+// argument, or the one line of a refusal. What is printed is settled by `output`, hence by the call for a reason, on which alone
+// it stands; the rest only moves bytes.
 use libc::STDOUT_FILENO;
 use program_stream::Input;
 ghost use Prim.Native.Nat.{_≤_};
@@ -15,7 +14,7 @@ fn output(text: &[u8], argument: &[u8], room: &mut [u8]) -> usize
         (take r (now (room .exit))) ⌝ }
 {
     let number = register_number::number_of(argument);
-    let answer = batqemulo::text_reason(text, number, room);
+    let answer = call_reason::text_reason(text, number, room);
     program_stream::put_answer(answer, room)
 }
 
@@ -37,13 +36,14 @@ fn answer_for(argument: &[u8]) {
     print_reason(&text[..n], argument);
 }
 
-// The buffer is longer than any number. An argument that does not fit it is read as an empty one: neither is a number.
+// The buffer is longer than any number. An argument that does not fit it is read as an empty one: neither is a number. Its first
+// bytes are there all the same, so that a long option is seen.
 fn main() {
-    if os::arg_count() != 2 {
-        io::write_all(STDERR_FILENO, b"usage: reason NUMBER <register\n");
-        return;
-    }
     let mut argument = [0u8; 16];
     let n = os::arg(1, &mut argument);
+    if os::arg_count() != 2 || program_stream::is_option(&argument) {
+        program_stream::print_usage(b" NUMBER <register\n");
+        return;
+    }
     answer_for(&argument[..n]);
 }

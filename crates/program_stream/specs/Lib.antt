@@ -1,3 +1,4 @@
 pub mod Input
 pub mod Pieces
 pub mod PutAnswer
+pub mod Options

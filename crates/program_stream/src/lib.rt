@@ -1,6 +1,8 @@
-// What the programs have in common: standard input is read whole into a room, an answer is put as what is printed of it, and
-// a room's first bytes are written in pieces. What is asked and answered is each program's own.
+// What the programs have in common: a word that none of them takes is answered by how the program is used, standard input is
+// read whole into a room, an answer is put as what is printed of it, and a room's first bytes are written in pieces. What is
+// asked and answered is each program's own.
 use answer::Answer;
+use libc::STDERR_FILENO;
 use libc::STDIN_FILENO;
 ghost use mathlib.Core.Path.{_≡_};
 ghost use Prim.Native.Nat.{_≤_, _-_, _<_};
@@ -8,10 +10,44 @@ ghost use lib.ListN.{length};
 ghost use Rattle.program_stream.specs.Input.{Within};
 ghost use Rattle.program_stream.specs.Pieces.{Piece};
 ghost use Rattle.program_stream.specs.PutAnswer.{PutOf};
+ghost use Rattle.program_stream.specs.Options.{Option};
 
 pub enum Input {
     Bytes(usize),
     Failed,
+}
+
+// Whether a word begins as an option does. No program has one, so that such a word is neither a number nor a file's name.
+pub fn is_option(word: &[u8]) -> bool
+    ensures { λ r. ⌜ Option (now (word .entry)) r ⌝ }
+{
+    if word.len() == 0 {
+        return false;
+    }
+    if word[0] == b'-' {
+        return true;
+    }
+    false
+}
+
+// Says on standard error how the program is used: the name with which it was started, and the words that go behind it. A name
+// that is longer than a path may be is left out.
+pub fn print_usage(words: &[u8]) {
+    let mut name = io::buffer();
+    let n = os::arg(0, &mut name);
+    io::write_all(STDERR_FILENO, b"usage: ");
+    io::write_all(STDERR_FILENO, &name[..n]);
+    io::write_all(STDERR_FILENO, words);
+}
+
+// Says that input is waited for, where somebody is to type it.
+fn tell_waiting() {
+    if libc::isatty(STDIN_FILENO) == 1 {
+        io::write_all(
+            STDERR_FILENO,
+            b"waiting for a register on standard input; Ctrl-D ends it\n",
+        );
+    }
 }
 
 // One read into the room, behind the bytes that are there. No bytes: the input has ended.
@@ -26,10 +62,12 @@ fn read_more(room: &mut [u8], done: usize) -> Input
     Input::Bytes(io::count(got, &room[done..]))
 }
 
-// Reads until the input ends, the room is full or a read fails, which is not the end of the input.
+// Reads until the input ends, the room is full or a read fails, which is not the end of the input. At a terminal it says that it
+// waits.
 pub fn read_all(room: &mut [u8]) -> Input
     ensures { λ r. ⌜ Within (length (now (room .entry))) r ⌝ }
 {
+    tell_waiting();
     let mut done = 0;
     // The `done` bytes read so far are within the room.
     while done < room.len() {

@@ -49,7 +49,7 @@ PrintsReason text argument printed =
     PrintsFault text printed
     ⊎ ((R : Register) × Accepts text R × (ReasonNamed R argument printed ⊎ (NoneNamed R argument × PrintsRefusal Asked printed)))
 
--- What comes of a text that is to be mended. No report is not an empty one: the file for it is not touched.
+-- What comes of a text that is to be mended. No report is not an empty one: then there is no file for it.
 pub data Outcome : Type 0 where
   no-report : (printed : List ℕ) → Outcome
   with-report : (printed reported : List ℕ) → Outcome

@@ -10,6 +10,18 @@ use borrow.Author.Needs.{needs}
 use Rattle.program_list.proofs.main.Statement.{statement}
 use Rattle.program_list.proofs.main.Tie as tie
 
+arg-count-requires : tie.Need-arg-count-requires
+arg-count-requires c κs = search needs
+
+slice-aggregate-print-usage : tie.Need-slice-aggregate-print-usage
+slice-aggregate-print-usage c = search needs
+
+print-usage-requires : tie.Need-print-usage-requires
+print-usage-requires c κs = search needs
+
+returns : tie.Need-returns
+returns c = search needs
+
 large-buffer-requires : tie.Need-large-buffer-requires
 large-buffer-requires c κs = search needs
 
@@ -31,8 +43,8 @@ slice-aggregate-fail c = search needs
 fail-requires : tie.Need-fail-requires
 fail-requires c κs = search needs
 
-returns : tie.Need-returns
-returns c = search needs
+returns-2 : tie.Need-returns-2
+returns-2 c = search needs
 
 array-share-prefix-text : tie.Need-array-share-prefix-text
 array-share-prefix-text c =
@@ -54,13 +66,17 @@ slice-aggregate-print-listing c =
 print-listing-requires : tie.Need-print-listing-requires
 print-listing-requires c κs = search needs
 
-returns-2 : tie.Need-returns-2
-returns-2 c = search needs
+returns-3 : tie.Need-returns-3
+returns-3 c = search needs
 
 pub main-spec : {M : Type 1} → statement M
 main-spec =
     tie.close
     (tie.spec
+    arg-count-requires
+    slice-aggregate-print-usage
+    print-usage-requires
+    returns
     large-buffer-requires
     slice-aggregate-read-all
     read-all-requires
@@ -68,8 +84,8 @@ main-spec =
     enum-told
     slice-aggregate-fail
     fail-requires
-    returns
+    returns-2
     array-share-prefix-text
     slice-aggregate-print-listing
     print-listing-requires
-    returns-2)
+    returns-3)

@@ -17,6 +17,9 @@ abbrev μ-loop : tie.MeasureT-loop
 μ-loop room₀ done₀ room done =
     length room - done
 
+tell-waiting-requires : tie.Need-tell-waiting-requires Inv-loop μ-loop
+tell-waiting-requires c κs = search needs
+
 loop-holds : tie.Need-loop-holds Inv-loop μ-loop
 loop-holds c = search needs
 
@@ -73,6 +76,7 @@ read-all-spec =
     (tie.spec
     Inv-loop
     μ-loop
+    tell-waiting-requires
     loop-holds
     read-more-requires
     enum-known-n

@@ -1,4 +1,4 @@
--- `main`: no more bytes were read than the buffer has.
+-- `mend_input`: no more bytes were read than the buffer has.
 use mathlib.Core.Path.{subst, sym}
 use Prim.Native.Nat.{_≤_}
 use native.Mathlib.Omega.{arith}
@@ -7,20 +7,8 @@ use lib.Seq.{length-take-le}
 use Rattle.program_stream.specs.Input.{Within}
 use Rattle.program_stream.specs.declared.Input.{Input}
 use borrow.Author.Needs.{needs}
-use Rattle.program_mend.proofs.main.Statement.{statement}
-use Rattle.program_mend.proofs.main.Tie as tie
-
-arg-count-requires : tie.Need-arg-count-requires
-arg-count-requires c κs = search needs
-
-slice-aggregate-write-all : tie.Need-slice-aggregate-write-all
-slice-aggregate-write-all c = search needs
-
-write-all-requires : tie.Need-write-all-requires
-write-all-requires c κs = search needs
-
-returns : tie.Need-returns
-returns c = search needs
+use Rattle.program_mend.proofs.mend_input.Statement.{statement}
+use Rattle.program_mend.proofs.mend_input.Tie as tie
 
 large-buffer-requires : tie.Need-large-buffer-requires
 large-buffer-requires c κs = search needs
@@ -43,8 +31,8 @@ slice-aggregate-fail c = search needs
 fail-requires : tie.Need-fail-requires
 fail-requires c κs = search needs
 
-returns-2 : tie.Need-returns-2
-returns-2 c = search needs
+returns : tie.Need-returns
+returns c = search needs
 
 array-share-prefix-text : tie.Need-array-share-prefix-text
 array-share-prefix-text c =
@@ -67,17 +55,13 @@ slice-aggregate-print-mended c =
 print-mended-requires : tie.Need-print-mended-requires
 print-mended-requires c κs = search needs
 
-returns-3 : tie.Need-returns-3
-returns-3 c = search needs
+returns-2 : tie.Need-returns-2
+returns-2 c = search needs
 
-pub main-spec : {M : Type 1} → statement M
-main-spec =
+pub mend-input-spec : {M : Type 1} → statement M
+mend-input-spec =
     tie.close
     (tie.spec
-    arg-count-requires
-    slice-aggregate-write-all
-    write-all-requires
-    returns
     large-buffer-requires
     slice-aggregate-read-all
     read-all-requires
@@ -85,8 +69,8 @@ main-spec =
     enum-told
     slice-aggregate-fail
     fail-requires
-    returns-2
+    returns
     array-share-prefix-text
     slice-aggregate-print-mended
     print-mended-requires
-    returns-3)
+    returns-2)

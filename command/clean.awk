@@ -1,7 +1,7 @@
 # Cleans a text of what is safe to take away before a register is read: a byte order mark, and bytes 13 and tabs at the end of a
-# line; and ends a last line that is not ended. No line goes, and what is a register already stays as it is. It
-# reads the text as `od -An -v -tu1` prints it and writes bytes; the file `did`, which the environment names, gets a key of
-# sentences.txt and a number of lines for each thing done. `wide` tells that the text was UTF-16.
+# line; and ends a last line that is not ended. No line goes, and what is a register already stays as it is. It reads the text as
+# `od -An -v -tu1` prints it and writes bytes; the file `did`, which the environment names, gets a key of sentences.txt and a number
+# of lines for each thing done. `wide` tells that the text was UTF-16.
 
 # end_line: the line in `bytes` is written
 function end_line(from, k) {

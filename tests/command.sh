@@ -1040,6 +1040,18 @@ leaves() {
     ends 0 && nothing "$work/out" && nothing "$work/said" && [ "$(calls)" -eq "$before" ]
 }
 
+# builds_unheard: it is built where nobody listens to standard error, which is closed or full
+builds_unheard() {
+    local before
+    before=$(calls)
+    touch "$copy/crates/game/src/lib.rt"
+    build bash -c 'command/build list 2>&-'
+    ends 0 && [ "$(calls)" -eq $((before + 1)) ] || return
+    touch "$copy/crates/game/src/lib.rt"
+    build bash -c 'command/build list 2>/dev/full'
+    ends 0 && [ "$(calls)" -eq $((before + 2)) ] && leaves true
+}
+
 # builds_first: the first time it is told that the program is built, of how many crates, and they are counted in one line
 builds_first() {
     local count
@@ -1683,6 +1695,7 @@ try 'it is not built again for a call that mends' leaves touch crates/call_mend/
 try 'it is not built again for another program' leaves touch crates/program_mend/src/main.rt
 try 'it is not built again for the whole product' leaves touch crates/batqemulo/src/lib.rt
 try 'it is built again where a source was edited while it was built' edited_meanwhile
+try 'it is built where nobody listens' builds_unheard
 try 'a build too many would be noticed' fails leaves touch crates/game/src/lib.rt
 try 'a build too few would be noticed' fails builds true
 try './list is built and started' starts_what_is_built ./list

@@ -1,8 +1,8 @@
 #!/usr/bin/env bash
 # The outside tests of what is installed: the files, C programs that are built against them by
 # pkg-config, with the shared library and with the archive, the version, the command, the man pages,
-# which are held against the header, and what is left when all is removed. tests/run starts it, after
-# it has built the client. The very last line is 'N passed, M failed'.
+# which are held against the header, and what is left when all is removed. tests/run starts it. The
+# very last line is 'N passed, M failed'.
 set -u
 cd "$(dirname "$0")/.." || exit 1
 . tests/programs.sh
@@ -72,9 +72,9 @@ one_version() {
         [ "$(cat "$root/share/batqemulo/version")" = "batqemulo $version" ]
 }
 
-# one_place: what stands for a version stands nowhere else, the history aside
+# one_place: the version has its entry in the history, and stands nowhere else
 one_place() {
-    ! git grep -n -F -e "$version" -- . ':!CHANGELOG.md' ':!docs/landings' ':!docs/BENCH.md'
+    git grep -q -F -e "$version" -- CHANGELOG.md && ! git grep -n -F -e "$version" -- . ':!CHANGELOG.md' ':!docs/landings' ':!docs/BENCH.md'
 }
 
 places() {
@@ -231,7 +231,7 @@ rules_told() {
     done
 }
 
-# statuses_told: one table of the command's page has the exit statuses, and no other page has numbers of its own for them
+# statuses_told: one table of the command's page has the exit statuses
 statuses_told() {
     [ "$(sed -n '/^\.SH "EXIT STATUS"/,/^\.SH DIAG/s/^\.B \([0-9]\)$/\1/p' "$root/share/man/man1/batqemulo.1" | xargs)" = '0 1 2' ]
 }

@@ -32,6 +32,7 @@ static const struct table {
     {"Mending", works_on_old, MENDING_WORKS, shapes_of_old, SHAPES_OF_OLD},
     {"Looking for repeats", works_on_repeats, SEARCHING_WORKS, shapes_of_repeats,
      SHAPES_OF_REPEATS},
+    {"Asked for a reason", works_on_reasons, REASON_WORKS, shapes_of_reasons, SHAPES_OF_REASONS},
 };
 
 /* Stops the run unless both sides answer alike, and with what the shape is made for. */

@@ -48,6 +48,11 @@ batqemulo_answer plain_pairs_exercise(const uint8_t *marks, size_t marks_len,
 batqemulo_answer plain_listing(const uint8_t *text, size_t text_len, uint8_t *room,
                                size_t room_len);
 
+/* As batqemulo_reason: the text is read and solved as for the listing, and then the objections are
+ * walked from target to objector, with a queue. */
+batqemulo_answer plain_reason(const uint8_t *text, size_t text_len, uint32_t number, uint8_t *room,
+                              size_t room_len);
+
 /* As batqemulo_mend, with the same look-up and the same search for a repeated objection. */
 batqemulo_answer plain_mend(const uint8_t *text, size_t text_len, uint8_t *room, size_t room_len,
                             uint8_t *report, size_t report_len, uint32_t *report_written);

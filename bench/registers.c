@@ -2,6 +2,8 @@
  * the limits. Every run draws the same ones. */
 #include "registers.h"
 
+#include "plain.h"
+
 #include <stdio.h>
 #include <string.h>
 
@@ -243,6 +245,27 @@ const struct shape shapes_of_repeats[SHAPES_OF_REPEATS] = {
     {.name = "late", .draw = draw_late, .refusal = BATQEMULO_OBJECTION_REPEATED},
 };
 
+const struct shape shapes_of_reasons[SHAPES_OF_REASONS] = {
+    {.name = "random", .draw = draw_random, .asks_reason = 1},
+    {.name = "chain", .draw = draw_chain, .asks_reason = 1},
+    {.name = "dense", .draw = draw_crowd, .asks_reason = 1},
+    {.name = "star", .draw = draw_star, .asks_reason = 1},
+};
+
+/* Of several with the longest reason it is the first. */
+static uint32_t with_longest_reason(void) {
+    static uint8_t room[BATQEMULO_MAX_LISTING_BYTES];
+    uint32_t found = 0, longest = 0;
+    for (size_t x = 0; x < drawn.statements; x++) {
+        uint32_t bytes = plain_reason(drawn.text, drawn.bytes, number(x), room, sizeof room).value;
+        if (bytes > longest) {
+            longest = bytes;
+            found = number(x);
+        }
+    }
+    return found;
+}
+
 void draw(const struct shape *shape, size_t size) {
     memset(&drawn, 0, sizeof drawn);
     drawn.statements = sizes[size];
@@ -252,4 +275,6 @@ void draw(const struct shape *shape, size_t size) {
     write_text();
     if (shape->wear != NULL)
         shape->wear();
+    if (shape->asks_reason)
+        drawn.asked = with_longest_reason();
 }

@@ -8,9 +8,10 @@
 enum { SIZES = 4 };
 
 /* The shapes for calls that answer for all statements, for those that are asked for one, which is
- * the first, for the call that mends, and for the search for repeats; and the most of them. */
+ * the first, for the call that mends, for the search for repeats, and for the call for a reason;
+ * and the most of them. */
 enum { SHAPES_OF_ALL = 6, SHAPES_OF_ONE = 4, SHAPES_OF_OLD = 6, SHAPES_OF_REPEATS = 5 };
-enum { MOST_SHAPES = SHAPES_OF_ALL };
+enum { SHAPES_OF_REASONS = 4, MOST_SHAPES = SHAPES_OF_ALL };
 
 struct shape {
     const char *name;
@@ -19,12 +20,15 @@ struct shape {
     void (*wear)(void);
     /* the answer of the works that are timed on it, but for mending, which accepts all */
     uint32_t refusal;
+    /* whether a reason is asked for */
+    int asks_reason;
 };
 
 extern const struct shape shapes_of_all[SHAPES_OF_ALL];
 extern const struct shape shapes_of_one[SHAPES_OF_ONE];
 extern const struct shape shapes_of_old[SHAPES_OF_OLD];
 extern const struct shape shapes_of_repeats[SHAPES_OF_REPEATS];
+extern const struct shape shapes_of_reasons[SHAPES_OF_REASONS];
 
 struct drawn {
     size_t statements;
@@ -39,6 +43,8 @@ struct drawn {
     uint8_t text[BATQEMULO_MAX_TEXT_BYTES];
     size_t bytes;
     size_t most_bytes;
+    /* the number of the statement that has the longest reason, for a shape that asks for one */
+    uint32_t asked;
     /* whether a pair is there, so that none is there twice */
     uint8_t taken[BATQEMULO_MAX_STATEMENTS][BATQEMULO_MAX_STATEMENTS];
 };

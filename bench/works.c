@@ -1,5 +1,6 @@
 /* The calls that are timed, each on the register that is drawn: those that answer for all of its
- * statements, those that are asked for one, the one that mends, and those that look for repeats. */
+ * statements, those that are asked for one, the one that mends, those that look for repeats, and
+ * the one for a reason. */
 #include "works.h"
 
 #include "batqemulo.h"
@@ -18,7 +19,7 @@ uint32_t bench_solver_label(const uint8_t *marks, size_t marks_len, const uint32
 uint32_t bench_solver_check(const uint8_t *marks, size_t marks_len, const uint32_t *objectors,
                             size_t objectors_len, const uint32_t *targets, size_t targets_len);
 
-/* The statement that is asked for. */
+/* The place of the statement that is asked for, but for a reason. */
 enum { ASKED = 0 };
 
 static struct rooms {
@@ -26,6 +27,7 @@ static struct rooms {
     uint16_t lengths[BATQEMULO_MAX_STATEMENTS];
     uint8_t listing[BATQEMULO_MAX_LISTING_BYTES];
     uint32_t line[BATQEMULO_MAX_LINE_ENTRIES];
+    uint8_t reason[BATQEMULO_MAX_LISTING_BYTES];
     uint8_t mended[BATQEMULO_MAX_TEXT_BYTES];
     uint8_t report[BATQEMULO_MAX_REPORT_BYTES];
     uint32_t reported;
@@ -156,6 +158,20 @@ const struct work works_on_repeats[SEARCHING_WORKS] = {
     {"batqemulo_pairs_labels", {call_library, call_plain}, 0},
     {"batqemulo_listing", {list_library, list_plain}, 0},
     {"batqemulo_mend", {mend_library, mend_plain}, 1},
+};
+
+static void reason_library(void) {
+    by_library.answer = batqemulo_reason(drawn.text, drawn.bytes, drawn.asked, by_library.reason,
+                                         sizeof by_library.reason);
+}
+
+static void reason_plain(void) {
+    by_plain.answer =
+        plain_reason(drawn.text, drawn.bytes, drawn.asked, by_plain.reason, sizeof by_plain.reason);
+}
+
+const struct work works_on_reasons[REASON_WORKS] = {
+    {"batqemulo_reason", {reason_library, reason_plain}, 0},
 };
 
 int sides_agree(const struct work *work, uint32_t refusal) {

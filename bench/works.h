@@ -8,9 +8,10 @@
 /* The two sides of a comparison. */
 enum { LIBRARY, PLAIN, SIDES };
 
-/* How many works there are in a table: of calls that answer, of the one that mends, and of those
- * that look for repeats; and the most of them. */
-enum { WORKS = 3, MENDING_WORKS = 1, SEARCHING_WORKS = 4, MOST_WORKS = SEARCHING_WORKS };
+/* How many works there are in a table: of calls that answer, of the one that mends, of those that
+ * look for repeats, and of the one for a reason; and the most of them. */
+enum { WORKS = 3, MENDING_WORKS = 1, SEARCHING_WORKS = 4, REASON_WORKS = 1 };
+enum { MOST_WORKS = SEARCHING_WORKS };
 
 struct work {
     const char *name;
@@ -24,6 +25,7 @@ extern const struct work works_on_all[WORKS];
 extern const struct work works_on_one[WORKS];
 extern const struct work works_on_old[MENDING_WORKS];
 extern const struct work works_on_repeats[SEARCHING_WORKS];
+extern const struct work works_on_reasons[REASON_WORKS];
 
 /* Whether both sides answer the drawn register with this refusal, at the same place if it has one,
  * and fill their rooms alike. */

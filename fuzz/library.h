@@ -20,6 +20,7 @@ enum call {
     LISTING = 22,
     TEXT_LINE = 23,
     TEXT_EXERCISE = 24,
+    REASON = 25,
     SHEET = 26,
     SHEET_UPDATE = 27,
     MEND = 28

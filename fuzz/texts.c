@@ -1,7 +1,7 @@
 /* The fuzzer's target for register texts. Plain C reads and solves each text, instrumented, so that
- * its branches guide the fuzzer; then every call on the text but that for a reason is made of the
- * library, and both must agree. The reader of bench/ is included for what it keeps to itself. */
-#include "../bench/plain_text.c"
+ * its branches guide the fuzzer; then every call on the text is made of the library, and both must
+ * agree. */
+#include "../bench/plain_rows.h"
 #include "library.h"
 #include "met.h"
 
@@ -10,36 +10,29 @@
 
 /* A text with what plain C makes of it. */
 static struct {
-    struct page page;
+    struct solved solved;
     batqemulo_answer found;
-    uint8_t labels[BATQEMULO_MAX_STATEMENTS];
-    uint16_t lengths[BATQEMULO_MAX_STATEMENTS];
     uint8_t listing[BATQEMULO_MAX_LISTING_BYTES];
     size_t listed;
 } plain;
 
 static void meet(void) {
-    const struct page *page = &plain.page;
+    const struct solved *solved = &plain.solved;
+    const struct page *page = &solved->page;
     meet_refusal(plain.found.refusal);
     if (plain.found.refusal != BATQEMULO_ACCEPTED)
         return;
     for (size_t x = 0; x < page->statements; x++)
-        meet_statement(plain.labels[x], plain.lengths[x]);
+        meet_statement(solved->labels[x], solved->lengths[x]);
     for (size_t i = 0; i < page->objections; i++)
-        meet_objection(plain.labels[page->objectors[i]], plain.labels[page->targets[i]]);
+        meet_objection(solved->labels[page->objectors[i]], solved->labels[page->targets[i]]);
 }
 
 static void solve_plainly(const uint8_t *text, size_t len) {
-    struct page *page = &plain.page;
-    page->statements = 0;
-    page->objections = 0;
     plain.listed = 0;
-    plain.found = read_text(page, text, len);
-    if (plain.found.refusal != BATQEMULO_ACCEPTED)
-        return;
-    plain_solve(page->marks, page->statements, page->objectors, page->targets, page->objections,
-                plain.labels, plain.lengths);
-    plain.listed = print(plain.listing, page, plain.labels, plain.lengths);
+    plain.found = solve_text(&plain.solved, text, len);
+    if (plain.found.refusal == BATQEMULO_ACCEPTED)
+        plain.listed = plain_listing(text, len, plain.listing, sizeof plain.listing).value;
 }
 
 /* A call that writes this answer into one room. */
@@ -60,25 +53,26 @@ static void hold_room(enum call call, const uint8_t *text, size_t len, size_t wi
 /* The asked statement's place: one on the register, or now and then none, which is the number of
  * statements. */
 static size_t asked_place(uint32_t thrown) {
-    size_t statements = plain.page.statements;
+    size_t statements = plain.solved.page.statements;
     return thrown % 16 == 0 ? statements : thrown / 16 % (statements + 1);
 }
 
 /* Its number; one that is not there is 0, above all numbers, or just not issued. */
 static uint32_t asked_number(size_t place, uint32_t thrown) {
-    if (place < plain.page.statements)
-        return plain.page.numbers[place];
+    struct page *page = &plain.solved.page;
+    if (place < page->statements)
+        return page->numbers[place];
     if (thrown % 3 == 0)
         return thrown % 2 * 100000000u;
     uint32_t number = thrown % 99999999u + 1;
-    while (*slot_of(&plain.page, number) != 0)
+    while (*slot_of(page, number) != 0)
         number = number % 99999999u + 1;
     return number;
 }
 
 static void hold_line(const uint8_t *text, size_t len, uint32_t thrown) {
     uint32_t line[BATQEMULO_MAX_LINE_ENTRIES];
-    const struct page *page = &plain.page;
+    const struct page *page = &plain.solved.page;
     size_t place = asked_place(thrown), needed = 0;
     struct request request = {.call = TEXT_LINE, .statement = asked_number(place, thrown)};
     batqemulo_answer right = plain.found;
@@ -96,8 +90,20 @@ static void hold_line(const uint8_t *text, size_t len, uint32_t thrown) {
     hold(&request, right);
 }
 
+static void hold_reason(const uint8_t *text, size_t len, uint32_t thrown) {
+    static uint8_t reason[BATQEMULO_MAX_LISTING_BYTES];
+    uint32_t number = asked_number(asked_place(thrown), thrown);
+    struct request request = {.call = REASON, .statement = number};
+    batqemulo_answer right = plain_reason(text, len, number, reason, sizeof reason);
+    size_t needed = right.refusal == BATQEMULO_ACCEPTED ? right.value : 0;
+    lend(&request, 1, text, len);
+    if (lend_room(&request, 1, near(needed, thrown), reason, needed))
+        right = answer(BATQEMULO_ROOM_TOO_SHORT, 0);
+    hold(&request, right);
+}
+
 static void hold_exercise(const uint8_t *text, size_t len, uint32_t thrown) {
-    const struct page *page = &plain.page;
+    const struct page *page = &plain.solved.page;
     size_t place = asked_place(thrown);
     uint32_t turns = thrown / 7 % 32 == 0 ? thrown : thrown / 7 % 8;
     struct request request = {
@@ -135,7 +141,7 @@ static void hold_sheet(const uint8_t *text, size_t len, size_t statements, uint3
     batqemulo_answer right = plain.found;
     size_t needed = sheet_size(statements), bytes = near(needed, thrown);
     size_t totals = near(BATQEMULO_TOTALS, thrown >> 3);
-    pack(&sheet, plain.labels, statements);
+    pack(&sheet, plain.solved.labels, statements);
     if (right.refusal == BATQEMULO_ACCEPTED)
         right = bytes < needed || totals < BATQEMULO_TOTALS ? answer(BATQEMULO_ROOM_TOO_SHORT, 0)
                                                             : answer(BATQEMULO_ACCEPTED, needed);
@@ -167,7 +173,7 @@ static void hold_update(const uint8_t *text, size_t len, size_t statements, uint
     size_t size = sheet_size(statements), longer = thrown >> 8 & 1 & thrown >> 9;
     uint32_t refusal = old_sheet(&old, statements, thrown);
     batqemulo_answer right = plain.found;
-    pack(&sheet, plain.labels, statements);
+    pack(&sheet, plain.solved.labels, statements);
     if (right.refusal == BATQEMULO_ACCEPTED)
         right = refusal != 0 || longer != 0 ? answer(BATQEMULO_SHEET_UNSOUND, 0)
                                             : answer(BATQEMULO_ACCEPTED, size);
@@ -222,7 +228,8 @@ static void hold_mended(const struct mended *mended, uint32_t thrown) {
     must(again.reported == 0, "a mended text has a report");
     solve_plainly(mended->text, len);
     must(plain.found.refusal == BATQEMULO_ACCEPTED, "a mended text is refused");
-    hold_room(TEXT_LABELS, mended->text, len, 1, plain.labels, plain.page.statements, thrown >> 6);
+    hold_room(TEXT_LABELS, mended->text, len, 1, plain.solved.labels, plain.solved.page.statements,
+              thrown >> 6);
 }
 
 int LLVMFuzzerTestOneInput(const uint8_t *text, size_t len) {
@@ -232,12 +239,13 @@ int LLVMFuzzerTestOneInput(const uint8_t *text, size_t len) {
     solve_plainly(text, len);
     meet();
     if (plain.found.refusal == BATQEMULO_ACCEPTED)
-        statements = plain.page.statements;
+        statements = plain.solved.page.statements;
     hold_room(LISTING, text, len, 1, plain.listing, plain.listed, thrown);
-    hold_room(TEXT_LABELS, text, len, 1, plain.labels, statements, thrown >> 3);
-    hold_room(TEXT_LENGTHS, text, len, 2, plain.lengths, statements, thrown >> 6);
+    hold_room(TEXT_LABELS, text, len, 1, plain.solved.labels, statements, thrown >> 3);
+    hold_room(TEXT_LENGTHS, text, len, 2, plain.solved.lengths, statements, thrown >> 6);
     hold_line(text, len, thrown >> 9);
     hold_exercise(text, len, thrown >> 9);
+    hold_reason(text, len, thrown >> 10);
     hold_sheet(text, len, statements, thrown >> 12);
     hold_update(text, len, statements, thrown >> 15);
     hold_mend(text, len, &mended, thrown >> 18);

@@ -35,7 +35,7 @@ extern "C" {
 /* The version. Its parts have their place here alone; by them it is a text, such as "1.2.3", and a
  * number to compare, such as 10203. */
 #define BATQEMULO_VERSION_MAJOR 0
-#define BATQEMULO_VERSION_MINOR 2
+#define BATQEMULO_VERSION_MINOR 3
 #define BATQEMULO_VERSION_PATCH 0
 #define BATQEMULO_VERSION                                                                          \
     BATQEMULO_PARTS(BATQEMULO_VERSION_MAJOR, BATQEMULO_VERSION_MINOR, BATQEMULO_VERSION_PATCH)
@@ -227,8 +227,12 @@ batqemulo_answer batqemulo_text_line(const uint8_t *text, size_t text_len, uint3
 
 /* Writes the reason for the statement with this number, as rows of the listing: the statement's
  * own, then those of the objections in its reason, in the order of the objection lines. These are
- * all that are reached from the statement, going from target to objector, along objections that are
- * felling, delaying or standoffs. An idle one is in no reason, and nothing is reached by it.
+ * all that are reached from the statement, going from target to objector, along standoffs, delaying
+ * objections, and felling ones whose length equals the length of their target. An idle one, or a
+ * felling one that is longer than its target, is in no reason, and nothing is reached by it. So
+ * the reason for a falling or standing statement never comes back to a statement that it has
+ * passed: each objector in it has a smaller length than its target. The reason for an open one has
+ * standoffs only, and may come back.
  *
  *   number  label  length                of the asked statement
  *   objector  target  kind  length       of each objection in its reason

@@ -15,6 +15,21 @@ no_numbers=('' 0 00 05 007 000000005 100000000 500000000 999999999 4294967301 18
     +5 ' 5' '5 ' $'5\t' $'5\n' $'\n5' 5.0 '5,' 5a a5 5R 0x5 5e0 5_0 /5 5: $'\xff5' $'5\xff'
     5/6 '5 6' five 5- 12345678901234567890123456789)
 
+# long_reason: a text whose reason for 2023 has every one of 4,096 objections, and more than 70 KiB: a
+# chain of 1,024 statements, and those that fall against those that stand later, which only delays them
+long_reason() {
+    awk 'BEGIN {
+        for (x = 0; x < 1024; x++) printf "S\t%d\tR\n", 1000 + x
+        for (x = 1; x < 1024; x++) printf "O\t%d\t%d\n", 999 + x, 1000 + x
+        left = 4096 - 1023
+        for (y = 1022; left > 0; y -= 2)
+            for (x = y - 3; x > 0 && left > 0; x -= 2) {
+                printf "O\t%d\t%d\n", 1000 + x, 1000 + y
+                left--
+            }
+    }'
+}
+
 # numbers FILE: those of the statements, in listed order
 numbers() {
     sed -n 's/^S\t\([0-9]*\)\t.*/\1/p' "$1"
@@ -32,6 +47,16 @@ agrees_on_all() {
 reads() {
     typed "$3" >"$work/right"
     asking "$1" prints "$work/right" <"$2"
+}
+
+# more_than_a_piece: a reason that is longer than what is written at once
+more_than_a_piece() {
+    asking 2023 agrees "$work/long" && [ "$(wc -c <"$work/out")" -gt 65536 ]
+}
+
+# late_left_out: nothing is printed but the chain, against which 3,073 more fell later than need be
+late_left_out() {
+    asking 101023 agrees "$work/longest" && [ "$(wc -l <"$work/out")" -eq 1024 ]
 }
 
 in_a_pipeline() {
@@ -60,14 +85,18 @@ too_long_first() {
 
 sound 65535 >"$work/most"
 longest >"$work/longest"
+long_reason >"$work/long"
 typed 'S 5 R\nS 6 R\nS 7 R\nO 5 6\nO 6 7\nO 7 6\n' >"$work/three"
+typed 'S 1 R\nS 5 R\nS 6 R\nS 7 R\nS 8 R\nS 9 R\nO 5 1\nO 7 1\nO 6 5\nO 7 6\nO 8 7\nO 9 8\n' >"$work/late"
 typed 'S 99999999 R\nO 99999999 99999999\n' >"$work/greatest"
 
 try 'stands without an objection' reads 5 "$work/three" '5 stands 0\n'
-try 'falls, by all three objections' \
-    reads 6 "$work/three" '6 falls 1\n5 6 felling 1\n6 7 delaying 2\n7 6 felling 3\n'
-try 'stands, by all three objections' \
-    reads 7 "$work/three" '7 stands 2\n5 6 felling 1\n6 7 delaying 2\n7 6 felling 3\n'
+try 'falls, without coming back' reads 6 "$work/three" '6 falls 1\n5 6 felling 1\n'
+try 'stands, without coming back' \
+    reads 7 "$work/three" '7 stands 2\n5 6 felling 1\n6 7 delaying 2\n'
+try 'falls, by an objection of its own length and not by a later one' \
+    reads 1 "$work/late" '1 falls 3\n7 1 felling 3\n8 7 delaying 2\n9 8 felling 1\n'
+try 'falls, without thousands of later objections' late_left_out
 try 'open, without the idle objection' \
     reads 102 examples/game.txt '102 open -\n102 101 standoff -\n101 102 standoff -\n'
 try 'the greatest number' \
@@ -99,12 +128,12 @@ refused_texts text_refused_first
 try 'a text that is too long' too_long_first
 
 try 'an input that comes byte by byte' asking 102 in_pieces examples/game.txt 1
-try 'a long input that comes in pieces' asking 101023 in_pieces "$work/longest" 4000
+try 'a long input that comes in pieces' asking 2023 in_pieces "$work/long" 4000
 try 'stopped and continued while it reads' asking 102 stopped_and_continued examples/game.txt
 try '65,535 bytes' asking 40000111 agrees "$work/most"
 try '65,535 bytes, the last one late' asking 40000111 last_byte_late "$work/most"
-try 'a reason of more than 65,536 bytes' asking 101023 agrees "$work/longest"
-try 'a reason that is taken slowly' asking 101023 slow_reader "$work/longest"
+try 'a reason of more than 65,536 bytes' more_than_a_piece
+try 'a reason that is taken slowly' asking 2023 slow_reader "$work/long"
 try 'started as in the tutorial' as_in_the_tutorial
 try 'between two other programs' in_a_pipeline
 
@@ -116,10 +145,10 @@ try 'no environment' asking 102 without_environment examples/game.txt
 try 'no standard output' asking 102 output_closed examples/game.txt
 try 'no standard output for a refusal' asking 07 output_closed examples/game.txt
 try 'a full device' asking 102 output_full examples/game.txt
-try 'a full device for a long reason' asking 101023 output_full "$work/longest"
-try 'a disk that fills up' asking 101023 output_fills_up "$work/longest"
-try 'a pipe that is closed' asking 101023 pipe_closed "$work/longest"
-try 'a pipe that is closed, without the signal' asking 101023 pipe_closed_unsignalled "$work/longest"
-asking 101023 try_pieces "$work/longest"
+try 'a full device for a long reason' asking 2023 output_full "$work/long"
+try 'a disk that fills up' asking 2023 output_fills_up "$work/long"
+try 'a pipe that is closed' asking 2023 pipe_closed "$work/long"
+try 'a pipe that is closed, without the signal' asking 2023 pipe_closed_unsignalled "$work/long"
+asking 2023 try_pieces "$work/long"
 
 finish

@@ -147,20 +147,26 @@ document() {
     done
 }
 
-# notices SED: the tutorial with one thing changed is found to be wrong
-notices() {
+# is_wrong FILE: a command of the tutorial, as it stands in this file, prints something else
+is_wrong() {
     local folder=$work/changed file
-    sed "$1" docs/TUTORIAL.md >"$work/changed.md"
-    if cmp -s docs/TUTORIAL.md "$work/changed.md"; then
-        return 1
-    fi
-    part "$work/changed.md" "$folder"
+    part "$1" "$folder"
     furnish "$folder"
     for file in "$folder"/*.command; do
-        grep -q -e '^\./batqemulo' -e '^cat report' "$file" || continue
+        grep -q -e '^\./batqemulo' -e '^cat report' -e '^printf' "$file" || continue
         prints "$file" || return 0
     done
     return 1
+}
+
+# notices SED: the tutorial with one thing changed is found to be wrong
+notices() {
+    sed "$1" docs/TUTORIAL.md >"$work/changed.md"
+    ! cmp -s docs/TUTORIAL.md "$work/changed.md" && is_wrong "$work/changed.md"
+}
+
+unchanged() {
+    ! is_wrong docs/TUTORIAL.md
 }
 
 # by its plain name the shared library is found as an installed one is
@@ -180,12 +186,15 @@ try 'the program of the man page looks at every refusal' man_page
 try 'a refusal that is not looked at would be noticed' notices_unseen
 try 'README: one screen before the first picture' one_screen
 
+try 'the tutorial as it is has nothing to notice' unchanged
 try 'another label would be noticed' notices 's/^2003\tstands/2003\topen/'
 try 'another length would be noticed' notices 's/^2002\tfalls\t3/2002\tfalls\t1/'
 try 'another kind would be noticed' notices 's/^3005\t3001\tidle/3005\t3001\tdelaying/'
 try 'a line left out would be noticed' notices '/^2005\tfalls/d'
 try 'an idle objection in a reason would be noticed' \
     notices '/^\$ .\/batqemulo reason 3001/,/^```/s/^4001/3005\t3001\tidle\t-\n&/'
+try 'a felling objection that is longer than its target in a reason would be noticed' \
+    notices '/^\$ .\/batqemulo reason 6 /,/^\$ .\/batqemulo reason 7 /s/^5\t6\tfelling\t1/&\n7\t6\tfelling\t3/'
 try 'a mark that is not mended would be noticed' notices '/^\$ .\/batqemulo mend/,/^```/s/^S\t2005\tU/S\t2005\tR/'
 try 'another cause would be noticed' notices 's/^9\tmoved\t4/9\tdropped\t4/'
 try 'a space for a tab would be noticed' notices 's/^REFUSED\t/REFUSED /'

@@ -126,7 +126,7 @@ unfolding table inParts ascii field behind guessMark guessFields guessLine spell
 table-holds = holds table tt
 
 pub reasons-hold : Every Says reasons
-unfolding reasons ascii field behind guessMark guessFields guessLine spell behindLine guessFirst lineCount registerOf
+unfolding reasons inParts ascii field behind guessMark guessFields guessLine spell behindLine guessFirst lineCount registerOf
     same issued numbered differ known distinct ordered accepted inside testOf pass any all bookOf standsWithin fallsWithin
     verdict verdictBy
     numberTest numberBytes decimal decimalIn bytes placeOf statementRow objectionRow objectionRows keep counts belonging reaching

@@ -78,7 +78,7 @@ printed =
     ∷ list "S\t1\tR\nS\t1\tR\nO\t2\t1\n" "REFUSED\t5\t2\n"
     -- the reason of the statement that the argument names; 14 where it names none, after all that the text is refused for
     ∷ reason "S\t5\tR\nS\t6\tR\nS\t7\tR\nO\t5\t6\nO\t6\t7\nO\t7\t6\n" "6"
-    "6\tfalls\t1\n5\t6\tfelling\t1\n6\t7\tdelaying\t2\n7\t6\tfelling\t3\n"
+    "6\tfalls\t1\n5\t6\tfelling\t1\n"
     ∷ reason "S\t99999999\tU\n" "99999999" "99999999\topen\t-\n"
     ∷ reason "S\t1\tR\n" "2" "REFUSED\t14\t0\n"
     ∷ reason "S\t1\tR\n" "" "REFUSED\t14\t0\n"

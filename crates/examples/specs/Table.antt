@@ -84,16 +84,17 @@ table =
     "REGISTER\t3\t3\n5\tstands\t0\n6\tfalls\t1\n7\tstands\t2\n5\t6\tfelling\t1\n6\t7\tdelaying\t2\n7\t6\tfelling\t3\n"
     ∷ []
 
--- What too narrow and too wide reasons would get wrong. In 5, 6, 7 the reasons for 6 and 7 each have all three objections, and 5
--- has none. In the listing of 01, 103 against 102 is in no reason.
+-- What too narrow and too wide reasons would get wrong. In 5, 6, 7 the reason for 6 is 5 against 6 alone, and the one for 7 has
+-- no other against 6 either; 5 has none. In the listing of 01, 103 against 102 is in no reason. Where 1 falls by two that stand
+-- in 0, both are in its reason, and one that stands in 2 is not. Where 1 stands, every objection against it is in its reason,
+-- also the delaying one of length 2 beside the one of length 4.
 unfoldable pub reasons : List Row
 reasons =
-    explains "S\t5\tR\nS\t6\tR\nS\t7\tR\nO\t5\t6\nO\t6\t7\nO\t7\t6\n" 6
-    "6\tfalls\t1\n5\t6\tfelling\t1\n6\t7\tdelaying\t2\n7\t6\tfelling\t3\n"
+    explains "S\t5\tR\nS\t6\tR\nS\t7\tR\nO\t5\t6\nO\t6\t7\nO\t7\t6\n" 6 "6\tfalls\t1\n5\t6\tfelling\t1\n"
     ∷ explains "S\t101\tR\nS\t102\tR\nS\t103\tR\nS\t104\tR\nO\t102\t101\nO\t101\t102\nO\t103\t102\nO\t104\t103\n" 102
     "102\topen\t-\n102\t101\tstandoff\t-\n101\t102\tstandoff\t-\n"
     ∷ explains "S\t5\tR\nS\t6\tR\nS\t7\tR\nO\t5\t6\nO\t6\t7\nO\t7\t6\n" 7
-    "7\tstands\t2\n5\t6\tfelling\t1\n6\t7\tdelaying\t2\n7\t6\tfelling\t3\n"
+    "7\tstands\t2\n5\t6\tfelling\t1\n6\t7\tdelaying\t2\n"
     ∷ explains "S\t5\tR\nS\t6\tR\nS\t7\tR\nO\t5\t6\nO\t6\t7\nO\t7\t6\n" 5 "5\tstands\t0\n"
     ∷ explains "S\t101\tR\nS\t102\tR\nS\t103\tR\nS\t104\tR\nO\t102\t101\nO\t101\t102\nO\t103\t102\nO\t104\t103\n" 101
     "101\topen\t-\n102\t101\tstandoff\t-\n101\t102\tstandoff\t-\n"
@@ -101,6 +102,13 @@ reasons =
     "103\tfalls\t1\n104\t103\tfelling\t1\n"
     ∷ explains "S\t101\tR\nS\t102\tR\nS\t103\tR\nS\t104\tR\nO\t102\t101\nO\t101\t102\nO\t103\t102\nO\t104\t103\n" 104
     "104\tstands\t0\n"
+    -- 2 and 3 stand in 0, 4 falls in 1, 5 stands in 2; against 1 are 2, 5 and 3
+    ∷ explains "S\t1\tR\nS\t2\tR\nS\t3\tR\nS\t4\tR\nS\t5\tR\nO\t2\t1\nO\t5\t1\nO\t4\t5\nO\t2\t4\nO\t3\t1\n" 1
+    "1\tfalls\t1\n2\t1\tfelling\t1\n3\t1\tfelling\t1\n"
+    -- 5 stands in 0, 4 falls in 1, 3 stands in 2, 2 falls in 3; against 1 are 4 and 2
+    ∷ explains "S\t1\tR\nS\t2\tR\nS\t3\tR\nS\t4\tR\nS\t5\tR\nO\t5\t4\nO\t4\t3\nO\t3\t2\nO\t4\t1\nO\t2\t1\n" 1
+    (inParts "1\tstands\t4\n5\t4\tfelling\t1\n4\t3\tdelaying\t2\n3\t2\tfelling\t3\n"
+    "4\t1\tdelaying\t2\n2\t1\tdelaying\t4\n")
     ∷ []
 
 -- Two bits each, the first lowest: 96 is 0 + 4 · 0 + 16 · 2 + 64 · 1, the codes of open, open, falls, stands in the listing of

@@ -11,6 +11,7 @@ pub mod HandedBook
 pub mod Length
 pub mod Objection
 pub mod Reason
+pub mod Returns
 pub mod Rules
 pub mod Search
 pub mod Transfer

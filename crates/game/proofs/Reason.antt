@@ -3,7 +3,7 @@
 use mathlib.Core.Bool.{Bool, false, true, not, _&&_, _||_}
 use mathlib.Core.Logic.{inl, inr, _⊎_, _↔_}
 use mathlib.Core.Option.{Option, none, some}
-use mathlib.Core.Path.{refl, subst, sym, _≡_, _∙_}
+use mathlib.Core.Path.{refl, subst, subst₂, sym, _≡_, _∙_}
 use Prim.Native.Nat.{ℕ, zero, suc, _≤_, _<_}
 use native.Mathlib.Decide.{le-ind}
 use native.Mathlib.Omega.{arith}
@@ -11,67 +11,51 @@ use lib.Dec.{T, ltb, ltb→lt, lt→ltb, eqb, eqb→eq, eqb-refl}
 use Rattle.game.specs.Book.{Book, Objects, Listed, any, count}
 use Rattle.game.specs.Label.{Verdict, Means, falls, stands, is-open}
 use Rattle.game.specs.Objection.{kindOf, OfKind}
-use Rattle.game.specs.Reason.{NotIdle, Belongs, Reaches, asked, onward, InReason, OfReason, OnlyReason}
+use Rattle.game.specs.Questions.{Decides}
+use Rattle.game.specs.Reason.{hangsOn, Belongs, Reaches, asked, onward, InReason, OfReason, OnlyReason}
 use Rattle.game.specs.declared.Kind.{Kind}
-use Rattle.game.specs.declared.Kind.the-variants.{Idle, Felling, Delaying, Standoff}
+use Rattle.game.specs.declared.Kind.the-variants.{Felling, Delaying, Standoff}
 use Rattle.game.proofs.Search.{both, and-of, or-cases, any-at, or-left, or-right, any-of, decide, clash}
 use Rattle.game.proofs.Count.{count-strict, count-le}
-use Rattle.game.proofs.Verdict.{verdict, verdict-means, means-verdict}
+use Rattle.game.proofs.Verdict.{verdict, verdict-means, means-verdict, means-unique}
 use Rattle.game.proofs.Objection.{kind-unique}
 use Rattle.game.proofs.Transfer.{Needed, transfer}
 
--- Whether an objection belongs to reasons, by its kind.
-unfoldable pub counts : Option Kind → Bool
-counts none = false
-counts (some Idle) = false
-counts (some (Felling n)) = true
-counts (some (Delaying n)) = true
-counts (some Standoff) = true
+-- Whether an objection belongs to reasons, by the verdict of its target and its kind, where it has one.
+unfoldable pub counts : Verdict → Option Kind → Bool
+counts v none = false
+counts v (some κ) = hangsOn v κ
 
-counts-not-idle : (κ : Kind) → T (counts (some κ)) → NotIdle κ
-unfolding counts
-counts-not-idle Idle t = t
-counts-not-idle (Felling n) t = tt
-counts-not-idle (Delaying n) t = tt
-counts-not-idle Standoff t = tt
-
-not-idle-counts : (κ : Kind) → NotIdle κ → T (counts (some κ))
-unfolding counts
-not-idle-counts Idle t = t
-not-idle-counts (Felling n) t = tt
-not-idle-counts (Delaying n) t = tt
-not-idle-counts Standoff t = tt
-
--- An objection of a kind that is not idle, by the verdicts of its two ends, belongs to reasons.
+-- An objection belongs to reasons if its target hangs on its kind, by the verdicts of its two ends.
 belongs-by : (B : Book) (y x : ℕ) (v w : Verdict) (κ : Kind) → Objects B y x → Means B x v → Means B y w → kindOf v w ≡ some κ
-    → NotIdle κ → Belongs B y x
-belongs-by B y x v w κ o p q e n = record {
+    → T (hangsOn v κ) → Belongs B y x
+belongs-by B y x v w κ o p q e h = record {
   kind = κ;
   of-kind = record { target = v; objector = w; objects = o; target-means = p; objector-means = q; is = e };
-  not-idle = n;
+  hangs = h;
 }
 
 module _ (B : Book) where
   unfoldable pub belonging : ℕ → ℕ → Bool
-  belonging y x = (ltb y (B .size) && B .objects y x) && counts (kindOf (verdict B x) (verdict B y))
+  belonging y x = (ltb y (B .size) && B .objects y x) && counts (verdict B x) (kindOf (verdict B x) (verdict B y))
 
   pub belonging-exactly : (y x : ℕ) → Listed B x → T (belonging y x) ↔ Belongs B y x
   unfolding belonging counts
   belonging-exactly y x l = (to, from)
     where
-      of-kind : Objects B y x → (k : Option Kind) → kindOf (verdict B x) (verdict B y) ≡ k → T (counts k) → Belongs B y x
+      of-kind : Objects B y x → (k : Option Kind) → kindOf (verdict B x) (verdict B y) ≡ k → T (counts (verdict B x) k)
+          → Belongs B y x
       of-kind o none e c = absurd c
       of-kind o (some κ) e c =
-          belongs-by B y x (verdict B x) (verdict B y) κ o (verdict-means B x l) (verdict-means B y (o .0)) e
-          (counts-not-idle κ c)
+          belongs-by B y x (verdict B x) (verdict B y) κ o (verdict-means B x l) (verdict-means B y (o .0)) e c
 
-      to : T ((ltb y (B .size) && B .objects y x) && counts (kindOf (verdict B x) (verdict B y))) → Belongs B y x
+      to : T ((ltb y (B .size) && B .objects y x) && counts (verdict B x) (kindOf (verdict B x) (verdict B y))) → Belongs B y x
       to t =
-          let (a, c) = both (ltb y (B .size) && B .objects y x) (counts (kindOf (verdict B x) (verdict B y))) t in
+          let (a, c) = both (ltb y (B .size) && B .objects y x) (counts (verdict B x) (kindOf (verdict B x) (verdict B y))) t in
           let (h, o) = both (ltb y (B .size)) (B .objects y x) a in
           of-kind (ltb→lt y (B .size) h, o) (kindOf (verdict B x) (verdict B y)) refl c
 
-      from : Belongs B y x → T ((ltb y (B .size) && B .objects y x) && counts (kindOf (verdict B x) (verdict B y)))
+      from : Belongs B y x → T ((ltb y (B .size) && B .objects y x) && counts (verdict B x) (kindOf (verdict B x) (verdict B y)))
       from b =
           let o : Objects B y x = b .of-kind .objects in
           let e : kindOf (verdict B x) (verdict B y) ≡ some (b .kind) =
@@ -79,9 +63,10 @@ module _ (B : Book) where
             ← means-verdict B x l (b .of-kind .target) (b .of-kind .target-means),
             ← means-verdict B y (o .0) (b .of-kind .objector) (b .of-kind .objector-means),
           ) (b .of-kind .is) in
-          and-of (ltb y (B .size) && B .objects y x) (counts (kindOf (verdict B x) (verdict B y)))
+          and-of (ltb y (B .size) && B .objects y x) (counts (verdict B x) (kindOf (verdict B x) (verdict B y)))
           (and-of (ltb y (B .size)) (B .objects y x) (lt→ltb y (B .size) (o .0)) (o .1))
-          (subst (λ k. T (counts k)) (sym e) (not-idle-counts (b .kind) (b .not-idle)))
+          (subst (λ k. T (counts (verdict B x) k)) (sym e) (subst (λ v. T (hangsOn v (b .kind)))
+          (means-verdict B x l (b .of-kind .target) (b .of-kind .target-means)) (b .hangs)))
 
   -- What the reason for a reaches, all of it within so many objections.
   module _ (a : ℕ) where
@@ -197,7 +182,8 @@ module _ (B : Book) where
 
 -- What decides a target belongs to every reason that comes to it.
 needed-belongs : (B : Book) (y x : ℕ) (v w : Verdict) → Objects B y x → Means B x v → Means B y w → Needed v w → Belongs B y x
-needed-belongs B y x (falls n) (stands m) o p q h = belongs-by B y x (falls n) (stands m) (Felling (suc m)) o p q refl tt
+needed-belongs B y x (falls n) (stands m) o p q h = belongs-by B y x (falls n) (stands m) (Felling (suc m)) o p q refl
+    (subst (λ k. T (hangsOn (falls k) (Felling (suc m)))) (sym h) (eqb-refl (suc m)))
 needed-belongs B y x (falls n) (falls m) o p q h = absurd h
 needed-belongs B y x (falls n) is-open o p q h = absurd h
 needed-belongs B y x (stands n) (stands m) o p q h = absurd h
@@ -226,10 +212,10 @@ reason-enough B C a f l only = transfer B C f (record {
         let (z, k, e) = only .every y (of-reaches B a y .1 (onward (come x h) b)) in
         (z, (k, only .objections z x k h .1 (come x h, subst (λ u. Belongs B u (f x)) (sym e) b)), e)
 
--- by the kind that an objection is of
-module _ (B : Book) (y x : ℕ) (κ κ′ : Kind) (o : OfKind B y x κ) (e : κ ≡ κ′) where
-  pub belongs-as : NotIdle κ′ → Belongs B y x
-  belongs-as n = record { kind = κ; of-kind = o; not-idle = subst NotIdle (sym e) n }
-
-  pub idle-apart : (NotIdle κ′ → ⊥) → ¬ Belongs B y x
-  idle-apart n b = n (subst NotIdle (kind-unique B y x (b .kind) κ (b .of-kind) o ∙ e) (b .not-idle))
+-- Whether an objection belongs, by its kind and the verdict of its target.
+pub belongs-decided : (B : Book) (y x : ℕ) (κ : Kind) (o : OfKind B y x κ) (κ′ : Kind) → κ ≡ κ′ → (b : Bool)
+    → b ≡ hangsOn (o .target) κ′ → Decides (Belongs B y x) b
+belongs-decided B y x κ o κ′ e true h = record { kind = κ; of-kind = o; hangs = rw (e, ← h) tt }
+belongs-decided B y x κ o κ′ e false h =
+    λ b. subst T (sym h) (subst₂ (λ v k. T (hangsOn v k)) (means-unique B x (b .of-kind .target) (o .target)
+    (b .of-kind .target-means) (o .target-means)) (kind-unique B y x (b .kind) κ (b .of-kind) o ∙ e) (b .hangs))

@@ -1,6 +1,7 @@
-// Whether one objection belongs to a reason, in a register that is labelled: it goes by the objection's kind. Which objections a
-// reason comes to is left to `reason_find`.
+// Whether one objection belongs to a reason, in a register that is labelled: it goes by the objection's kind and the length of
+// its target. Which objections a reason comes to is left to `reason_find`.
 use game::Kind;
+use pair_chain::place;
 ghost use Prim.Native.Nat.{_<_};
 ghost use lib.ListN.{length, getD};
 ghost use Rattle.game.specs.Book.{bookOf};
@@ -23,10 +24,16 @@ pub fn belongs(
         (getD (now (objectors .entry)) k 0) (getD (now (targets .entry)) k 0)) r ⌝ }
 {
     let kind = label_kind::kind_at(marks, objectors, targets, labels, lengths, k);
+    let target_length = lengths[place(targets[k])];
     match kind {
         Kind::Idle => false,
-        Kind::Felling(_) => true,
-        Kind::Delaying(_) => true,
+        Kind::Felling(length) => {
+            if length == target_length {
+                return true;
+            }
+            false
+        }
+        Kind::Delaying(_length) => true,
         Kind::Standoff => true,
     }
 }

@@ -1,6 +1,6 @@
 //! Registers that are made for what is asked of one statement: long lines of argument, lines that
 //! could go on by many objectors, objections of which none settles a question of the class exercise
-//! early, and reasons that have every objection.
+//! early, reasons that have every objection, and reasons that leave nearly all of them out.
 
 use super::draft::Draft;
 use crate::random::Random;
@@ -21,13 +21,36 @@ pub fn chain(statements: usize) -> Draft {
 }
 
 /// A chain, and as many more objections as there may be: of those that stand latest to those that
-/// fall early. They fell later than need be and change no length, so that the reason for the first
-/// has every objection, and nearly all of them have the greatest lengths.
+/// fall early. They fell later than need be and change no length, so that no reason has any of them,
+/// and nearly all of them have the greatest lengths.
 pub fn tower(statements: usize) -> Draft {
     let mut draft = chain(statements);
     let falls = |place: &usize| (statements - 1 - place) % 2 == 1;
     for objector in (0..statements).filter(|place| !falls(place)) {
         for target in (objector + 2..statements).rev().filter(falls) {
+            draft.add(objector, target);
+        }
+    }
+    draft
+}
+
+/// The first statement, then layers of so many, and all of a layer object to all of the one before.
+/// The lengths of the last layer are 0, and each layer before has one more; so all these objections
+/// delay, or fell no later than need be. There are as many more as there may be, of what falls to
+/// what stands before it. They delay for fewer turns than the next layer does and change no length,
+/// so that the reason for the first has every objection.
+pub fn ladder(statements: usize, width: usize) -> Draft {
+    let mut draft = draft(statements);
+    let layer = |place: usize| place.div_ceil(width);
+    for target in 0..statements {
+        let is_next = |objector: &usize| layer(*objector) == layer(target) + 1;
+        for objector in (target..statements).filter(is_next) {
+            draft.add(objector, target);
+        }
+    }
+    let falls = |place: &usize| (layer(statements - 1) - layer(*place)) % 2 == 1;
+    for objector in (0..statements).filter(falls) {
+        for target in (0..objector).filter(|place| !falls(place)) {
             draft.add(objector, target);
         }
     }

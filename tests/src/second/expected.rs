@@ -200,7 +200,8 @@ impl Expected {
     /// objections. Nothing where there is no such statement.
     pub fn reason(&self, statement: u32) -> String {
         let of_place = |place: usize| {
-            let entries = reason::entries(&self.register.lists, &self.kinds, place);
+            let lists = &self.register.lists;
+            let entries = reason::entries(lists, &self.verdicts, &self.kinds, place);
             let objections = entries.iter().map(|entry| listing::objection(self, *entry));
             let first = listing::statement(self, place);
             std::iter::once(first).chain(objections).collect()

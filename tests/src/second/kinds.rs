@@ -2,10 +2,10 @@
 
 use super::verdict::{Verdict, NO_LENGTH};
 
-pub const IDLE: u32 = 0;
-const FELLING: u32 = 1;
-const DELAYING: u32 = 2;
-const STANDOFF: u32 = 3;
+const IDLE: u32 = 0;
+pub const FELLING: u32 = 1;
+pub const DELAYING: u32 = 2;
+pub const STANDOFF: u32 = 3;
 
 /// The number of the kind, and the objection's length.
 pub fn kind(target: Verdict, objector: Verdict) -> (u32, u32) {

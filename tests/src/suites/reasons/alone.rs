@@ -2,41 +2,29 @@
 //! with their marks, and its objections. Its listing, which the library gives as the second solver
 //! does, must have no row that the whole listing lacks, and so the same one for the statement.
 
+use super::{hold_listing, rows};
 use crate::inputs::text::Text;
-use crate::library::call::{TextCall, LISTING};
+use crate::library::call::TextCall;
 use crate::library::session::Session;
 use crate::second::expected::{Expected, Question};
 use crate::second::listing;
 use std::collections::HashSet;
 
-/// Holds the register of the reason for each of these statements.
+/// Holds the register of the reason for this statement. The listed rows are those of the whole text.
 pub fn hold(
     session: &mut Session,
     text: &Text,
-    expected: &Expected,
-    statements: &[u32],
+    listed: &HashSet<&str>,
+    (statement, reason): (u32, &str),
 ) -> Result<(), String> {
-    let whole = hold_listing(session, text, expected)?;
-    let rows: HashSet<&str> = whole.lines().collect();
-    for statement in statements {
-        let reason = expected.reason(*statement);
-        let alone = cut_out(text, &reason);
-        let expected = Expected::of_text(&alone);
-        let part = hold_listing(session, &alone, &expected)?;
-        let other = part.lines().skip(1).find(|row| !rows.contains(row));
-        if let Some(row) = other {
-            return Err(format!("{text}: {row}, by the reason for {statement}"));
-        }
-        hold_again(session, &alone, &expected, (*statement, &reason))?;
+    let alone = cut_out(text, reason)?;
+    let expected = Expected::of_text(&alone);
+    let part = hold_listing(session, &alone, &expected)?;
+    let other = part.lines().skip(1).find(|row| !listed.contains(row));
+    if let Some(row) = other {
+        return Err(format!("{text}: {row}, by the reason for {statement}"));
     }
-    Ok(())
-}
-
-/// Holds the listing, and answers it.
-fn hold_listing(session: &mut Session, text: &Text, expected: &Expected) -> Result<String, String> {
-    let rooms = LISTING.fitting(text, expected);
-    session.hold_text_call(&LISTING, text, expected, &rooms)?;
-    Ok(listing::listing(expected))
+    hold_again(session, &alone, &expected, (statement, reason))
 }
 
 /// Holds the reason for the statement in a register of this reason alone: it is the same reason.
@@ -59,22 +47,13 @@ fn hold_again(
 }
 
 /// The lines of a sound text that this reason is about.
-fn cut_out(text: &Text, reason: &str) -> Text {
-    let rows = || {
-        reason
-            .lines()
-            .map(|row| row.split('\t').collect::<Vec<_>>())
-    };
-    let mut numbers = HashSet::new();
+fn cut_out(text: &Text, reason: &str) -> Result<Text, String> {
+    let (asked, _) = rows::asked(reason)?;
+    let mut numbers = HashSet::from([asked]);
     let mut objections = HashSet::new();
-    for row in rows() {
-        match row[..] {
-            [objector, target, _, _] => {
-                numbers.extend([objector, target]);
-                objections.insert((objector, target));
-            }
-            _ => numbers.extend([row[0]]),
-        }
+    for row in rows::objections(reason) {
+        numbers.extend([row.objector, row.target]);
+        objections.insert((row.objector, row.target));
     }
     let is_kept = |line: &&str| match line.split('\t').collect::<Vec<_>>()[..] {
         ["S", number, _] => numbers.contains(number),
@@ -82,5 +61,5 @@ fn cut_out(text: &Text, reason: &str) -> Text {
         _ => false,
     };
     let lines = std::str::from_utf8(&text.0).expect("a sound text").lines();
-    Text::of_lines(&lines.filter(is_kept).collect::<Vec<_>>())
+    Ok(Text::of_lines(&lines.filter(is_kept).collect::<Vec<_>>()))
 }

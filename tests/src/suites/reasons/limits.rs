@@ -1,9 +1,9 @@
 //! Reasons at the limits: all of 1,024 statements and 4,096 objections in one reason, by standoffs
-//! alone and by the longest lengths, and the reasons of a chain of 1,024, each of which goes on to
-//! its end.
+//! alone, by delaying objections of the longest lengths, and by felling ones among them; and the
+//! reasons of a chain of 1,024, each of which goes on to its end and nowhere else.
 
 use super::{hold_reasons, Test};
-use crate::inputs::crafted::{chain, circle, tower};
+use crate::inputs::crafted::{chain, circle, ladder, tower};
 use crate::inputs::draft::Draft;
 use crate::inputs::numbers;
 use crate::inputs::text::Text;
@@ -20,8 +20,9 @@ const LENGTHS: [usize; 8] = [0, 1, 2, 255, 256, 257, 1_022, 1_023];
 pub fn tests() -> Vec<Test> {
     vec![
         Test::new("the largest reasons: one circle", circles),
-        Test::new("the largest reasons: late felling objections", towers),
+        Test::new("the largest reasons: what falls and what stands", ladders),
         Test::new("the reasons of chains of 1,024", chains),
+        Test::new("late felling objections are in no reason", towers),
     ]
 }
 
@@ -39,19 +40,41 @@ fn circles(session: &mut Session) -> Result<(), String> {
     Ok(())
 }
 
-fn towers(session: &mut Session) -> Result<(), String> {
-    let mut random = Random::for_test("the largest reasons: late felling objections");
-    for text in orders(&mut random, |_| tower(MOST_STATEMENTS)) {
-        let expected = Expected::of_text(&text);
-        let asked = with_length(&expected, MOST_STATEMENTS - 1)?;
-        hold_sized(session, &text, &expected, &[asked], MOST_OBJECTIONS)?;
+/// The first statement has the greatest length, which is the number of layers behind it, and every
+/// objection in its reason. An odd number makes it fall: 1,023 layers of one, and 341 of three. An
+/// even one makes it stand: 512 layers of two, the last with one, and 256 of four, the last with
+/// three. Layers of five would take more objections than there may be.
+fn ladders(session: &mut Session) -> Result<(), String> {
+    let mut random = Random::for_test("the largest reasons: what falls and what stands");
+    for (width, layers) in [(1, 1_023), (2, 512), (3, 341), (4, 256)] {
+        for text in orders(&mut random, |_| ladder(MOST_STATEMENTS, width)) {
+            let expected = Expected::of_text(&text);
+            let asked = with_length(&expected, layers)?;
+            hold_sized(session, &text, &expected, &[asked], MOST_OBJECTIONS)?;
+        }
     }
     Ok(())
 }
 
 fn chains(session: &mut Session) -> Result<(), String> {
-    let mut random = Random::for_test("the reasons of chains");
-    for text in orders(&mut random, |_| chain(MOST_STATEMENTS)) {
+    hold_chained(session, "the reasons of chains", chain)
+}
+
+/// A tower has 3,073 objections beside its chain. The objector of each stands later than the target
+/// falls, so that it is longer than its target and belongs to no reason. What is left is the chain.
+fn towers(session: &mut Session) -> Result<(), String> {
+    hold_chained(session, "late felling objections", tower)
+}
+
+/// Holds reasons that have the objections of a chain and no other: from a statement to the end of
+/// the chain there are as many as its length.
+fn hold_chained(
+    session: &mut Session,
+    name: &str,
+    draft: fn(usize) -> Draft,
+) -> Result<(), String> {
+    let mut random = Random::for_test(name);
+    for text in orders(&mut random, |_| draft(MOST_STATEMENTS)) {
         let expected = Expected::of_text(&text);
         for length in LENGTHS {
             let asked = with_length(&expected, length)?;

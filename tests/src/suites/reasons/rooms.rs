@@ -2,7 +2,7 @@
 //! the reason, and no byte written that is not the reason's.
 
 use super::Test;
-use crate::inputs::crafted::{chain, tower};
+use crate::inputs::crafted::{chain, ladder};
 use crate::inputs::numbers;
 use crate::inputs::page::Page;
 use crate::inputs::text::Text;
@@ -37,14 +37,19 @@ fn small(session: &mut Session) -> Result<(), String> {
     Ok(())
 }
 
+/// One reason has fewer than 65,536 bytes, and the other has more.
 fn at_limits(session: &mut Session) -> Result<(), String> {
     let mut random = Random::for_test("rooms of the largest reasons");
-    for draft in [chain(MOST_STATEMENTS), tower(MOST_STATEMENTS)] {
+    let drafts = [chain(MOST_STATEMENTS), ladder(MOST_STATEMENTS, 1)];
+    for (draft, is_long) in drafts.into_iter().zip([false, true]) {
         let lists = draft.in_draft_order();
         let text = Text::written(&lists, &numbers::fitting(&mut random, &lists));
         let expected = Expected::of_text(&text);
         let statement = expected.register.numbers[0];
         let right = expected.reason(statement).len();
+        if (right > 65_536) != is_long {
+            return Err(format!("{text}: a reason of {right} bytes"));
+        }
         // 65,536 would be an empty room if it were cut down to 16 bits
         for length in [0, 1, right - 1, right, right + 1, 65_535, 65_536, 131_072] {
             session.hold_reason(&text, &expected, statement, Room::Of(length))?;

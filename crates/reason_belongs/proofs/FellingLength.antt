@@ -19,9 +19,6 @@ use Rattle.label_solve.specs.Labelled.{Told, ListsLabelled}
 
 module _ (marks objectors targets labels lengths : List ℕ) (l : ListsLabelled marks objectors targets labels lengths) (k x : ℕ)
     (h : k < length objectors) (e : x ≡ getD targets k 0) where
-  pub target-place : x < length marks
-  target-place = omega (arith, e, l .handed .order .target k h)
-
   abbrev pub B : Book
   B = bookOf marks objectors targets
 
@@ -29,7 +26,8 @@ module _ (marks objectors targets labels lengths : List ℕ) (l : ListsLabelled 
     target-length : getD lengths x 0 ≡ lengthNumber (o .target)
     unfolding bookOf
     target-length =
-        let told : Told B x (getD labels x 0) (getD lengths x 0) = l .labelled .told x target-place in
+        let there : x < length marks = omega (arith, e, l .handed .order .target k h) in
+        let told : Told B x (getD labels x 0) (getD lengths x 0) = l .labelled .told x there in
         told .length-is
         ∙ ap lengthNumber (means-unique B x (told .verdict) (o .target) (told .means) (rw e (o .target-means)))
 

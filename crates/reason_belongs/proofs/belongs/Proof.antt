@@ -2,7 +2,7 @@
 use mathlib.Core.Path.{refl}
 use native.Mathlib.Omega.{arith}
 use Rattle.game.proofs.Reason.{belongs-decided}
-use Rattle.reason_belongs.proofs.FellingLength.{target-place, felling-belongs, felling-apart}
+use Rattle.reason_belongs.proofs.FellingLength.{felling-belongs, felling-apart}
 use borrow.Author.Needs.{needs}
 use Rattle.reason_belongs.proofs.belongs.Statement.{statement}
 use Rattle.reason_belongs.proofs.belongs.Tie as tie
@@ -22,12 +22,12 @@ place-requires c κs = search needs
 mul-target-length : tie.Need-mul-target-length
 mul-target-length c =
     let pre = c .before .before .before .before .before .before .before .before .pre in
-    omega (arith, target-place _ _ _ _ _ (pre .0) _ _ (pre .1) (c .place .ensures), pre .0 .handed .few-marks)
+    omega (arith, pre .0 .handed .order .target _ (pre .1), c .place .ensures, pre .0 .handed .few-marks)
 
 shared-slice-read-target-length : tie.Need-shared-slice-read-target-length
 shared-slice-read-target-length c =
     let pre = c .before .before .before .before .before .before .before .before .before .pre in
-    omega (arith, target-place _ _ _ _ _ (pre .0) _ _ (pre .1) (c .before .place .ensures), pre .0 .lengths-room)
+    omega (arith, pre .0 .handed .order .target _ (pre .1), c .before .place .ensures, pre .0 .lengths-room)
 
 enum-told : tie.Need-enum-told
 enum-told c = search needs

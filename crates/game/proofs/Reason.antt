@@ -27,7 +27,7 @@ counts v none = false
 counts v (some κ) = hangsOn v κ
 
 -- An objection belongs to reasons if its target hangs on its kind, by the verdicts of its two ends.
-belongs-by : (B : Book) (y x : ℕ) (v w : Verdict) (κ : Kind) → Objects B y x → Means B x v → Means B y w → kindOf v w ≡ some κ
+pub belongs-by : (B : Book) (y x : ℕ) (v w : Verdict) (κ : Kind) → Objects B y x → Means B x v → Means B y w → kindOf v w ≡ some κ
     → T (hangsOn v κ) → Belongs B y x
 belongs-by B y x v w κ o p q e h = record {
   kind = κ;

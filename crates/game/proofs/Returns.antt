@@ -18,7 +18,7 @@ use Rattle.game.specs.declared.Kind.{Kind}
 use Rattle.game.specs.declared.Kind.the-variants.{Idle, Felling, Delaying, Standoff}
 use Rattle.game.proofs.Verdict.{verdict, verdictBy, verdict-means, means-verdict, means-unique}
 use Rattle.game.proofs.Agree.{verdict-agrees}
-use Rattle.game.proofs.Reason.{reaches-listed}
+use Rattle.game.proofs.Reason.{belongs-by, reaches-listed}
 
 -- a verdict with a length
 abbrev HasLength : Verdict → Type 0
@@ -207,11 +207,7 @@ open-returns = (first, further (at-once (asked, back)) (onward asked back, forth
     other = verdict-means eachOther 1 (omega arith)
 
     standoff : (y x : ℕ) → Objects eachOther y x → Open eachOther x → Open eachOther y → Belongs eachOther y x
-    standoff y x o p q = record {
-      kind = Standoff;
-      of-kind = record { target = is-open; objector = is-open; objects = o; target-means = p; objector-means = q; is = refl };
-      hangs = tt;
-    }
+    standoff y x o p q = belongs-by eachOther y x is-open is-open Standoff o p q refl tt
 
     back : Belongs eachOther 1 0
     back = standoff 1 0 (omega arith, tt) first other

@@ -33,6 +33,8 @@ static const struct table {
     {"Looking for repeats", works_on_repeats, SEARCHING_WORKS, shapes_of_repeats,
      SHAPES_OF_REPEATS},
     {"Asked for a reason", works_on_reasons, REASON_WORKS, shapes_of_reasons, SHAPES_OF_REASONS},
+    {"Year numbers alone, and numbers of eight digits", works_on_numbers, NUMBER_WORKS,
+     shapes_of_numbers, SHAPES_OF_NUMBERS},
 };
 
 /* Stops the run unless both sides answer alike, and with what the shape is made for. */
@@ -83,17 +85,17 @@ static void print_head(const struct table *table) {
     printf("%s\n", table->title);
     printf("Microseconds for one call, medians of %d samples by turns; ratio: library / C\n\n",
            (int)SAMPLES);
-    printf("%-10s %6s %6s %6s", "", "state-", "", "");
+    printf("%-13s %6s %6s %6s", "", "state-", "", "");
     for (size_t work = 0; work < table->work_count; work++)
         printf("  | %-28s", table->works[work].name);
-    printf("\n%-10s %6s %6s %6s", "shape", "ments", "pairs", "bytes");
+    printf("\n%-13s %6s %6s %6s", "shape", "ments", "pairs", "bytes");
     for (size_t work = 0; work < table->work_count; work++)
         printf("  | %10s %10s %6s", "library", "C", "ratio");
     printf("\n");
 }
 
 static void print_row(const struct table *table, const struct shape *shape, times medians) {
-    printf("%-10s %6zu %6zu %6zu", shape->name, drawn.statements, drawn.pairs, drawn.bytes);
+    printf("%-13s %6zu %6zu %6zu", shape->name, drawn.statements, drawn.pairs, drawn.bytes);
     for (size_t work = 0; work < table->work_count; work++)
         printf("  | %10.2f %10.2f %6.2f", medians[work][LIBRARY] / 1e3, medians[work][PLAIN] / 1e3,
                medians[work][LIBRARY] / medians[work][PLAIN]);
@@ -113,9 +115,9 @@ static void print_growth(times *medians, size_t work) {
 static void print_growths(const struct table *table, times medians[][SIZES]) {
     for (size_t work = 0; work < table->work_count; work++) {
         printf("\nGrowth of the times from each size to the next: %s\n\n", table->works[work].name);
-        printf("%-10s  | %-17s | %-17s\n", "shape", "library", "C");
+        printf("%-13s  | %-17s | %-17s\n", "shape", "library", "C");
         for (size_t shape = 0; shape < table->count; shape++) {
-            printf("%-10s ", table->shapes[shape].name);
+            printf("%-13s ", table->shapes[shape].name);
             print_growth(medians[shape], work);
         }
     }

@@ -43,6 +43,12 @@ batqemulo_answer plain_pairs_exercise(const uint8_t *marks, size_t marks_len,
                                       const uint32_t *targets, size_t targets_len, uint32_t place,
                                       uint32_t turns);
 
+/* As batqemulo_number. */
+batqemulo_answer plain_number(const uint8_t *written, size_t written_len);
+
+/* As batqemulo_number_text. */
+batqemulo_answer plain_number_text(uint32_t number, uint8_t *room, size_t room_len);
+
 /* As batqemulo_listing: numbers are looked up by hashing, and a repeated objection is looked for
  * along chains. */
 batqemulo_answer plain_listing(const uint8_t *text, size_t text_len, uint8_t *room,

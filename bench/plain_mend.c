@@ -149,10 +149,10 @@ static void put_report(uint8_t *to, const struct mending *mending) {
         uint8_t cause = mending->causes[line];
         if (cause == BATQEMULO_ACCEPTED)
             continue;
-        to = put_number(to, (uint32_t)line + 1, '\t');
+        to = put_decimal(to, (uint32_t)line + 1, '\t');
         to = cause == BATQEMULO_STATEMENT_LATE ? put_word(to, "moved\t", 6)
                                                : put_word(to, "dropped\t", 8);
-        to = put_number(to, cause, '\n');
+        to = put_decimal(to, cause, '\n');
     }
 }
 

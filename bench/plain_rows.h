@@ -1,5 +1,5 @@
 /* What the listing and the reason in plain C share: a text that was read and solved, the kinds of
- * its objections, rows put down, and a room filled with them. */
+ * its objections, and rows put down. */
 #ifndef PLAIN_ROWS_H
 #define PLAIN_ROWS_H
 
@@ -39,7 +39,7 @@ static inline uint8_t kind_of(const struct solved *solved, uint32_t objector, ui
 
 static inline uint8_t *put_length(uint8_t *to, uint32_t length) {
     if (length != BATQEMULO_NO_LENGTH)
-        return put_number(to, length, '\n');
+        return put_decimal(to, length, '\n');
     return put_word(to, "-\n", 2);
 }
 
@@ -59,15 +59,6 @@ static inline uint8_t *put_objection(uint8_t *to, const struct solved *solved, s
     if (kind == BATQEMULO_FELLING || kind == BATQEMULO_DELAYING)
         return put_length(to, solved->lengths[objector] + 1u);
     return put_length(to, BATQEMULO_NO_LENGTH);
-}
-
-/* Rows are put down aside first: how long they are shows at their end. */
-static inline batqemulo_answer fill_room(uint8_t *room, size_t room_len, const uint8_t *rows,
-                                         size_t bytes) {
-    if (room_len < bytes)
-        return answer(BATQEMULO_ROOM_TOO_SHORT, 0);
-    memcpy(room, rows, bytes);
-    return answer(BATQEMULO_ACCEPTED, bytes);
 }
 
 #endif

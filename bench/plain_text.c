@@ -82,8 +82,8 @@ batqemulo_answer solve_text(struct solved *solved, const uint8_t *text, size_t t
 static size_t print(uint8_t *out, const struct solved *solved) {
     const struct page *page = &solved->page;
     uint8_t *to = put_word(out, "REGISTER\t", 9);
-    to = put_number(to, (uint32_t)page->statements, '\t');
-    to = put_number(to, (uint32_t)page->objections, '\n');
+    to = put_decimal(to, (uint32_t)page->statements, '\t');
+    to = put_decimal(to, (uint32_t)page->objections, '\n');
     for (size_t x = 0; x < page->statements; x++)
         to = put_statement(to, solved, x);
     for (size_t i = 0; i < page->objections; i++)

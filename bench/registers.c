@@ -2,10 +2,7 @@
  * the limits. Every run draws the same ones. */
 #include "registers.h"
 
-#include "plain.h"
-
-#include <stdio.h>
-#include <string.h>
+#include "plain_lines.h"
 
 struct drawn drawn;
 
@@ -106,12 +103,16 @@ static void draw_stairs(void) {
 /* No objections, so that none is searched for a repeat: what all the rest takes. There is space for
  * the longest numbers. */
 static void draw_alone(void) {
-    drawn.long_numbers = 1;
 }
 
-/* As many statements as can all object to each other, in the shortest lines. */
+/* With half as many objections as elsewhere there is space for the longest numbers too. */
+static void draw_half(void) {
+    drawn.most_pairs /= 2;
+    draw_random();
+}
+
+/* As many statements as can all object to each other. */
 static void draw_crowd(void) {
-    drawn.small_numbers = 1;
     drawn.statements = 1;
     while ((drawn.statements + 1) * (drawn.statements + 1) <= drawn.most_pairs)
         drawn.statements++;
@@ -121,38 +122,47 @@ static void draw_crowd(void) {
 
 /* One statement against itself, then against all others, then all others against it. */
 static void draw_cross(void) {
-    drawn.small_numbers = 1;
     for (size_t target = 0; target < drawn.statements; target++)
         add(0, target);
     for (size_t objector = 1; objector < drawn.statements; objector++)
         add(objector, 0);
 }
 
-/* So many statements, in the shortest lines, and no objection. */
-static void draw_few(size_t statements) {
-    drawn.small_numbers = 1;
-    drawn.statements = statements;
-}
-
 static void draw_none(void) {
-    draw_few(0);
+    drawn.statements = 0;
 }
 
 static void draw_one(void) {
-    draw_few(1);
+    drawn.statements = 1;
 }
 
 /* The statements at each size; there may be four times as many pairs. */
 static const size_t sizes[SIZES] = {128, 256, 512, 1024};
 
-/* Four digits, with which the largest register fits a text, or eight; in no order. 8,999 and
- * 89,999,999 have no factor in common with 7,919 and 55,555,553, so that no number comes twice. */
-static unsigned number(size_t place) {
-    if (drawn.small_numbers)
-        return (unsigned)place + 1;
-    if (drawn.long_numbers)
-        return 10000000 + (unsigned)((uint64_t)place * 55555553 % 89999999);
-    return 1000 + (unsigned)(place * 7919 % 8999);
+/* A year number whose serial has as many digits as this one, in no order. 1,100 has no factor in
+ * common with 7,919, so that no year comes twice. */
+static uint32_t year_number(size_t place, uint32_t least) {
+    uint32_t mixed = (uint32_t)place * 7919;
+    return YEAR_CODES + SERIALS * (FIRST_YEAR + mixed % 1100) + least + mixed % (9 * least);
+}
+
+/* The code of the number at a place, in no order unless it is small. With four digits the largest
+ * register fits a text. 8,999 and 89,999,999 have no factor in common with 7,919 and 55,555,553, so
+ * that no number comes twice. */
+static uint32_t number(size_t place) {
+    static const uint32_t least[] = {10, 100, 1000};
+    switch (drawn.numbers) {
+    case SMALL_NUMBERS:
+        return (uint32_t)place + 1;
+    case EIGHT_DIGITS:
+        return 10000000 + (uint32_t)((uint64_t)place * 55555553 % 89999999);
+    case YEAR_NUMBERS:
+        return year_number(place, 100);
+    case UNEVEN_YEAR_NUMBERS:
+        return year_number(place, least[place % 3]);
+    default:
+        return 1000 + (uint32_t)(place * 7919 % 8999);
+    }
 }
 
 static void append(const char *line) {
@@ -161,16 +171,23 @@ static void append(const char *line) {
     drawn.bytes += length;
 }
 
+static void append_number(size_t place) {
+    size_t left = sizeof drawn.text - drawn.bytes;
+    drawn.bytes += plain_number_text(number(place), drawn.text + drawn.bytes, left).value;
+}
+
 static void append_statement(size_t place) {
-    char line[24];
-    snprintf(line, sizeof line, "S\t%u\t%c\n", number(place), drawn.marks[place] ? 'U' : 'R');
-    append(line);
+    append("S\t");
+    append_number(place);
+    append(drawn.marks[place] ? "\tU\n" : "\tR\n");
 }
 
 static void append_objection(size_t objector, size_t target) {
-    char line[24];
-    snprintf(line, sizeof line, "O\t%u\t%u\n", number(objector), number(target));
-    append(line);
+    append("O\t");
+    append_number(objector);
+    append("\t");
+    append_number(target);
+    append("\n");
 }
 
 static void write_text(void) {
@@ -215,9 +232,12 @@ static void wear_unknown(void) {
 }
 
 const struct shape shapes_of_all[SHAPES_OF_ALL] = {
-    {.name = "random", .draw = draw_random},     {.name = "chain", .draw = draw_chain},
-    {.name = "dense", .draw = draw_dense},       {.name = "star", .draw = draw_star},
-    {.name = "all unread", .draw = draw_unread}, {.name = "alone", .draw = draw_alone},
+    {.name = "random", .draw = draw_random},
+    {.name = "chain", .draw = draw_chain},
+    {.name = "dense", .draw = draw_dense},
+    {.name = "star", .draw = draw_star},
+    {.name = "all unread", .draw = draw_unread},
+    {.name = "alone", .draw = draw_alone, .numbers = EIGHT_DIGITS},
 };
 
 const struct shape shapes_of_one[SHAPES_OF_ONE] = {
@@ -227,20 +247,20 @@ const struct shape shapes_of_one[SHAPES_OF_ONE] = {
     {.name = "stairs", .draw = draw_stairs},
 };
 
-/* The first is a register, with nothing to mend. */
+/* The first is a register, with nothing to mend; the others have the shortest lines. */
 const struct shape shapes_of_old[SHAPES_OF_OLD] = {
     {.name = "random", .draw = draw_random},
     {.name = "blank", .draw = draw_none, .wear = wear_blank},
-    {.name = "seconds", .draw = draw_one, .wear = wear_second},
-    {.name = "repeats", .draw = draw_crowd, .wear = wear_repeats},
-    {.name = "cross", .draw = draw_cross, .wear = wear_first},
-    {.name = "unknown", .draw = draw_one, .wear = wear_unknown},
+    {.name = "seconds", .draw = draw_one, .numbers = SMALL_NUMBERS, .wear = wear_second},
+    {.name = "repeats", .draw = draw_crowd, .numbers = SMALL_NUMBERS, .wear = wear_repeats},
+    {.name = "cross", .draw = draw_cross, .numbers = SMALL_NUMBERS, .wear = wear_first},
+    {.name = "unknown", .draw = draw_one, .numbers = SMALL_NUMBERS, .wear = wear_unknown},
 };
 
 const struct shape shapes_of_repeats[SHAPES_OF_REPEATS] = {
     {.name = "random", .draw = draw_random},
     {.name = "chain", .draw = draw_chain},
-    {.name = "dense", .draw = draw_crowd},
+    {.name = "dense", .draw = draw_crowd, .numbers = SMALL_NUMBERS},
     {.name = "fans", .draw = draw_fans},
     {.name = "late", .draw = draw_late, .refusal = BATQEMULO_OBJECTION_REPEATED},
 };
@@ -248,8 +268,16 @@ const struct shape shapes_of_repeats[SHAPES_OF_REPEATS] = {
 const struct shape shapes_of_reasons[SHAPES_OF_REASONS] = {
     {.name = "random", .draw = draw_random, .asks_reason = 1},
     {.name = "chain", .draw = draw_chain, .asks_reason = 1},
-    {.name = "dense", .draw = draw_crowd, .asks_reason = 1},
+    {.name = "dense", .draw = draw_crowd, .numbers = SMALL_NUMBERS, .asks_reason = 1},
     {.name = "star", .draw = draw_star, .asks_reason = 1},
+};
+
+const struct shape shapes_of_numbers[SHAPES_OF_NUMBERS] = {
+    {.name = "alone", .draw = draw_alone, .numbers = EIGHT_DIGITS},
+    {.name = "alone, years", .draw = draw_alone, .numbers = YEAR_NUMBERS},
+    {.name = "random", .draw = draw_half, .numbers = EIGHT_DIGITS},
+    {.name = "random, years", .draw = draw_half, .numbers = YEAR_NUMBERS},
+    {.name = "uneven years", .draw = draw_half, .numbers = UNEVEN_YEAR_NUMBERS},
 };
 
 /* Of several with the longest reason it is the first. */
@@ -271,6 +299,7 @@ void draw(const struct shape *shape, size_t size) {
     drawn.statements = sizes[size];
     drawn.most_pairs = 4 * sizes[size];
     drawn.most_bytes = BATQEMULO_MAX_TEXT_BYTES * sizes[size] / BATQEMULO_MAX_STATEMENTS;
+    drawn.numbers = shape->numbers;
     shape->draw();
     write_text();
     if (shape->wear != NULL)

@@ -1,6 +1,6 @@
 /* The calls that are timed, each on the register that is drawn: those that answer for all of its
- * statements, those that are asked for one, the one that mends, those that look for repeats, and
- * the one for a reason. */
+ * statements, those that are asked for one, the one that mends, those that look for repeats, the
+ * one for a reason, and those that read and write numbers. */
 #include "works.h"
 
 #include "batqemulo.h"
@@ -172,6 +172,11 @@ static void reason_plain(void) {
 
 const struct work works_on_reasons[REASON_WORKS] = {
     {"batqemulo_reason", {reason_library, reason_plain}, 0},
+};
+
+const struct work works_on_numbers[NUMBER_WORKS] = {
+    {"batqemulo_listing", {list_library, list_plain}, 0},
+    {"batqemulo_mend", {mend_library, mend_plain}, 1},
 };
 
 int sides_agree(const struct work *work, uint32_t refusal) {

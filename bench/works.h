@@ -9,8 +9,9 @@
 enum { LIBRARY, PLAIN, SIDES };
 
 /* How many works there are in a table: of calls that answer, of the one that mends, of those that
- * look for repeats, and of the one for a reason; and the most of them. */
-enum { WORKS = 3, MENDING_WORKS = 1, SEARCHING_WORKS = 4, REASON_WORKS = 1 };
+ * look for repeats, of the one for a reason, and of those that read and write numbers; and the most
+ * of them. */
+enum { WORKS = 3, MENDING_WORKS = 1, SEARCHING_WORKS = 4, REASON_WORKS = 1, NUMBER_WORKS = 2 };
 enum { MOST_WORKS = SEARCHING_WORKS };
 
 struct work {
@@ -26,6 +27,7 @@ extern const struct work works_on_one[WORKS];
 extern const struct work works_on_old[MENDING_WORKS];
 extern const struct work works_on_repeats[SEARCHING_WORKS];
 extern const struct work works_on_reasons[REASON_WORKS];
+extern const struct work works_on_numbers[NUMBER_WORKS];
 
 /* Whether both sides answer the drawn register with this refusal, at the same place if it has one,
  * and fill their rooms alike. */

@@ -53,11 +53,40 @@ function blank(from, to, k) {
     return 1
 }
 
-function guess_number(word) {
+# has_year WORD: whether it begins with a year and a point
+function has_year(word) { return word ~ /^(1[0-9]|20)[0-9][0-9]\./ }
+
+# is_number WORD: whether it is one, a plain number or a year number
+function is_number(word) {
+    if (has_year(word)) return substr(word, 6) ~ /^[1-9][0-9]?[0-9]?[0-9]?$/
+    return word ~ /^[1-9][0-9]*$/ && length(word) <= 8
+}
+
+# guess_year WORD: what is wrong with a word that has a point, and is no number
+function guess_year(word, serial) {
+    serial = substr(word, index(word, ".") + 1)
+    if (word !~ /^[0-9A-Za-z.]+$/) hint("digits", word)
+    else if (word ~ /[A-Za-z]/) hint("letter", word)
+    else if (index(serial, ".")) hint("points", word)
+    else {
+        if (!has_year(word)) hint("year", word)
+        if (serial == "") hint("no-serial", word)
+        else if (serial ~ /^0/) hint("serial-zero", word)
+        else if (length(serial) > 4) hint("serial-long", word, length(serial))
+    }
+}
+
+# guess_number WORD: what is wrong with a word where a number is due
+function guess_number(word, pointed) {
+    pointed = word
+    sub(/,/, ".", pointed)
+    if (is_number(word)) return
     if (word == "") hint("no-digits")
+    else if (is_number(pointed)) hint("comma-for-point", word, pointed)
+    else if (index(word, ".")) guess_year(word)
     else if (word !~ /^[0-9]+$/) hint("digits", word)
     else if (word ~ /^0/) hint("zero", word)
-    else if (length(word) > 8) hint("nine", word, length(word))
+    else hint("nine", word, length(word))
 }
 
 # guess_fields: what is wrong with the fields of a line that has three
@@ -92,7 +121,8 @@ function guess_line(from, to, parting, fields) {
     }
     if (bytes[to] == 9) hint("tab-behind")
     while (to >= from && bytes[to] == 9) to--
-    parting = has(from, to, 9) ? 9 : has(from, to, 44) ? 44 : has(from, to, 59) ? 59 : has(from, to, 32) ? 32 : 9
+    # where there are semicolons, a comma may stand for a point
+    parting = has(from, to, 9) ? 9 : has(from, to, 59) ? 59 : has(from, to, 44) ? 44 : has(from, to, 32) ? 32 : 9
     fields = part(from, to, parting)
     if (field[1] ~ /^[A-Za-z][A-Za-z]/) {
         hint("heading")
@@ -122,7 +152,7 @@ function guess_earlier(number, k) {
 
 # guess_asked WORD: what is wrong with the number that is asked for
 function guess_asked(word) {
-    if (word ~ /^[1-9][0-9]*$/ && length(word) <= 8) hint("asked", word)
+    if (is_number(word)) hint("asked", word)
     else hint("asked-no-number", word == "" ? "an empty word" : word)
 }
 

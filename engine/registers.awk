@@ -1,5 +1,6 @@
 # Writes registers, each followed by a blank line: all of up to three statements, then `count` random
-# ones of many shapes, the same in every run of the same `seed`. Numbers are in no order.
+# ones of many shapes, the same in every run of the same `seed`. Numbers are in no order, and of both
+# forms.
 
 function below(bound) {
     state = (state * 16807) % 2147483647
@@ -7,13 +8,13 @@ function below(bound) {
 }
 
 function statement(place, unread) {
-    printf "S\t%d\t%s\n", number[place], unread ? "U" : "R"
+    printf "S\t%s\t%s\n", number[place], unread ? "U" : "R"
 }
 
 function objection(objector, target) {
     if (objected[objector, target]++)
         return
-    printf "O\t%d\t%d\n", number[objector], number[target]
+    printf "O\t%s\t%s\n", number[objector], number[target]
 }
 
 # the bits of `which` say who is unread and who objects to whom
@@ -33,6 +34,13 @@ function small(statements, which,    x, y) {
     printf "\n"
 }
 
+# of either form; another one at each place, since plain ones are 7,919 apart and years all differ
+function random_number(place) {
+    if (below(2))
+        return (1000 + place * 7919 % 1100) "." (1 + below(9999))
+    return (place * 7919 + 1 + below(2) * 10000000) % 99999999 + 1
+}
+
 # one pair: of any two, of a later one against an earlier, or of the next one against one
 function random_pair(shape, statements,    x, y) {
     x = below(statements)
@@ -50,7 +58,7 @@ function random(    statements, unread, shape, pairs, x) {
     shape = below(4)
     pairs = int(statements * (1 + below(10)) / 4)
     for (x = 0; x < statements; x++) {
-        number[x] = (x * 7919 + 1 + below(2) * 10000000) % 99999999 + 1
+        number[x] = random_number(x)
         statement(x, unread && !below(unread))
     }
     split("", objected)

@@ -23,7 +23,9 @@ enum call {
     REASON = 25,
     SHEET = 26,
     SHEET_UPDATE = 27,
-    MEND = 28
+    MEND = 28,
+    NUMBER = 40,
+    NUMBER_TEXT = 41
 };
 
 /* The most arrays that a call takes. */

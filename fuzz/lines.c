@@ -1,10 +1,10 @@
 /* How the fuzzer changes a text, besides what it does to bytes by itself: whole lines are added,
- * doubled and lost, and the numbers of new objections are mostly issued ones. Without this a longer
- * text would hardly ever stay sound. */
-#include <stddef.h>
-#include <stdint.h>
-#include <stdio.h>
-#include <string.h>
+ * doubled and lost, numbers are of both forms, and those of new objections are mostly issued ones.
+ * Without this a longer text would hardly ever stay sound. */
+#include "../bench/plain_lines.h"
+
+/* An objection's, with its word, its two numbers, and what ends them. */
+enum { LONGEST_LINE = 2 + 2 * (BATQEMULO_MAX_NUMBER_BYTES + 1) };
 
 /* The fuzzer's own change of bytes. */
 size_t LLVMFuzzerMutate(uint8_t *text, size_t size, size_t most);
@@ -53,21 +53,30 @@ static void take_out(struct text *text, struct piece line) {
     text->size -= line.end - line.start;
 }
 
-static unsigned new_number(struct text *text) {
-    static const unsigned most[] = {9, 9, 99, 999, 99999999};
-    return 1 + (unsigned)below(text, most[below(text, 5)]);
+/* The code of a year number: mostly of one of a few years, and with a small serial. */
+static uint32_t new_year_number(struct text *text) {
+    static const size_t years[] = {FIRST_YEAR, 1987, LAST_YEAR}, most[] = {9, 9, 99, 9999};
+    size_t year = years[below(text, 3)], serial = 1 + below(text, most[below(text, 4)]);
+    if (below(text, 4) == 0)
+        year = FIRST_YEAR + below(text, LAST_YEAR - FIRST_YEAR + 1);
+    return (uint32_t)(YEAR_CODES + SERIALS * year + serial);
+}
+
+static uint32_t new_number(struct text *text) {
+    static const size_t most[] = {9, 9, 99, 999, 99999999};
+    if (below(text, 3) == 0)
+        return new_year_number(text);
+    return (uint32_t)(1 + below(text, most[below(text, 5)]));
 }
 
 /* The number of some statement line, if one is found. */
-static unsigned issued(struct text *text) {
+static uint32_t issued(struct text *text) {
     for (int tries = 0; tries < 12; tries++) {
-        struct piece line = any_line(text);
-        unsigned number = 0;
-        if (line.end - line.start < 3 || text->bytes[line.start] != 'S')
+        struct piece piece = any_line(text);
+        struct line line = {text->bytes + piece.start, text->bytes + piece.end};
+        if (!take_byte(&line, 'S') || !take_byte(&line, '\t'))
             continue;
-        for (size_t i = line.start + 2; i < line.end && i < line.start + 10; i++)
-            if (text->bytes[i] >= '0' && text->bytes[i] <= '9')
-                number = 10 * number + (text->bytes[i] - '0');
+        uint32_t number = take_number(&line);
         if (number > 0)
             return number;
     }
@@ -76,17 +85,18 @@ static unsigned issued(struct text *text) {
 
 /* New statements mostly go to the start, where they are not late. */
 static void add_statement(struct text *text) {
-    char line[16];
-    char mark = below(text, 4) == 0 ? 'U' : 'R';
-    int count = snprintf(line, sizeof line, "S\t%u\t%c\n", new_number(text), mark);
-    put_in(text, below(text, 8) == 0 ? any_line(text).start : 0, line, (size_t)count);
+    uint8_t line[LONGEST_LINE], *to = put_word(line, "S\t", 2);
+    to = put_number(to, new_number(text), '\t');
+    to = put_word(to, below(text, 4) == 0 ? "U\n" : "R\n", 2);
+    put_in(text, below(text, 8) == 0 ? any_line(text).start : 0, line, (size_t)(to - line));
 }
 
 static void add_objection(struct text *text) {
-    char line[24];
-    unsigned objector = issued(text), target = issued(text);
-    int count = snprintf(line, sizeof line, "O\t%u\t%u\n", objector, target);
-    put_in(text, below(text, 8) == 0 ? any_line(text).start : text->size, line, (size_t)count);
+    uint8_t line[LONGEST_LINE], *to = put_word(line, "O\t", 2);
+    to = put_number(to, issued(text), '\t');
+    to = put_number(to, issued(text), '\n');
+    size_t at = below(text, 8) == 0 ? any_line(text).start : text->size;
+    put_in(text, at, line, (size_t)(to - line));
 }
 
 static void double_line(struct text *text) {

@@ -1,6 +1,6 @@
 /* The fuzzer's target for register texts. Plain C reads and solves each text, instrumented, so that
- * its branches guide the fuzzer; then every call on the text is made of the library, and both must
- * agree. */
+ * its branches guide the fuzzer; then every call on the text, and on numbers by themselves, is made
+ * of the library, and both must agree. */
 #include "../bench/plain_rows.h"
 #include "library.h"
 #include "met.h"
@@ -57,16 +57,41 @@ static size_t asked_place(uint32_t thrown) {
     return thrown % 16 == 0 ? statements : thrown / 16 % (statements + 1);
 }
 
-/* Its number; one that is not there is 0, above all numbers, or just not issued. */
+/* Any 32 bits, a plain number, a year number, or an edge of either, inside or just outside. Some
+ * codes are nobody's. */
+static uint32_t any_code(uint32_t thrown) {
+    static const uint32_t edges[] = {0,         1,         99999999,  100000000,
+                                     109999999, 110000000, 110000001, 119870000,
+                                     120999999, 121000001, UINT32_MAX};
+    switch (thrown % 4) {
+    case 0:
+        return thrown;
+    case 1:
+        return 1 + thrown % 99999999u;
+    case 2:
+        return 110000001u + thrown % 10999999u;
+    default:
+        return edges[thrown / 4 % (sizeof edges / sizeof edges[0])];
+    }
+}
+
+/* What may be taken for a code: the next one, the one with serial 0, or its digits alone. */
+static uint32_t beside(uint32_t number, uint32_t thrown) {
+    if (thrown % 3 == 0)
+        return number + 1;
+    return thrown % 3 == 1 ? number - number % SERIALS : number % YEAR_CODES;
+}
+
+/* Its number; of one that is not there, some code that is not issued. */
 static uint32_t asked_number(size_t place, uint32_t thrown) {
     struct page *page = &plain.solved.page;
+    uint32_t again = dice((const uint8_t *)&thrown, sizeof thrown), number = any_code(again);
     if (place < page->statements)
         return page->numbers[place];
-    if (thrown % 3 == 0)
-        return thrown % 2 * 100000000u;
-    uint32_t number = thrown % 99999999u + 1;
+    if (page->statements > 0 && again >> 31 == 0)
+        number = beside(page->numbers[again % page->statements], again >> 8);
     while (*slot_of(page, number) != 0)
-        number = number % 99999999u + 1;
+        number++;
     return number;
 }
 
@@ -185,6 +210,50 @@ static void hold_update(const uint8_t *text, size_t len, size_t statements, uint
     hold(&request, right);
 }
 
+static void hold_read(const uint8_t *written, size_t len, batqemulo_answer right) {
+    struct request request = {.call = NUMBER};
+    lend(&request, 1, written, len);
+    hold(&request, right);
+}
+
+static void hold_written(uint32_t number, const uint8_t *written, batqemulo_answer right,
+                         uint32_t thrown) {
+    struct request request = {.call = NUMBER_TEXT, .statement = number};
+    size_t needed = right.refusal == BATQEMULO_ACCEPTED ? right.value : 0;
+    if (lend_room(&request, 1, near(needed, thrown), written, needed))
+        right = answer(BATQEMULO_ROOM_TOO_SHORT, 0);
+    hold(&request, right);
+}
+
+/* The field of the text that a random byte is in; of the empty text an empty one. */
+static struct line any_field(const uint8_t *text, size_t len, uint32_t thrown) {
+    const uint8_t *at = text + (len == 0 ? 0 : thrown % len);
+    struct line field = {at, at};
+    while (field.at > text && field.at[-1] != '\t' && field.at[-1] != '\n')
+        field.at--;
+    while (field.end < text + len && *field.end != '\t' && *field.end != '\n')
+        field.end++;
+    return field;
+}
+
+/* A field is read as a number; if it is one, its code is written as this field again. */
+static void hold_field(struct line field, uint32_t thrown) {
+    size_t len = (size_t)(field.end - field.at);
+    batqemulo_answer right = plain_number(field.at, len);
+    hold_read(field.at, len, right);
+    if (right.refusal == BATQEMULO_ACCEPTED)
+        hold_written(right.value, field.at, answer(BATQEMULO_ACCEPTED, len), thrown);
+}
+
+/* A code is written; if it is a number's, what is written is read as this code again. */
+static void hold_code(uint32_t number, uint32_t thrown) {
+    uint8_t written[BATQEMULO_MAX_NUMBER_BYTES];
+    batqemulo_answer right = plain_number_text(number, written, sizeof written);
+    hold_written(number, written, right, thrown);
+    if (right.refusal == BATQEMULO_ACCEPTED)
+        hold_read(written, right.value, answer(BATQEMULO_ACCEPTED, number));
+}
+
 /* What plain C makes of a text that is mended. */
 struct mended {
     uint8_t text[BATQEMULO_MAX_TEXT_BYTES];
@@ -248,6 +317,8 @@ int LLVMFuzzerTestOneInput(const uint8_t *text, size_t len) {
     hold_reason(text, len, thrown >> 10);
     hold_sheet(text, len, statements, thrown >> 12);
     hold_update(text, len, statements, thrown >> 15);
+    hold_field(any_field(text, len, thrown), thrown >> 16);
+    hold_code(any_code(thrown), thrown >> 17);
     hold_mend(text, len, &mended, thrown >> 18);
     if (mended.answer.refusal == BATQEMULO_ACCEPTED)
         hold_mended(&mended, thrown >> 21);

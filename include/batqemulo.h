@@ -16,9 +16,9 @@
  * - No room may overlap another room or an input. Inputs are only read. Nothing else may write to
  *   an input or a room while a call runs.
  * - A room need not be set before a call, but for the old sheet and its totals in an update.
- * - A call on lists takes less than 32 KiB of stack, a call on a text less than 72 KiB, a call for
- *   a reason less than 80 KiB, a call that mends less than 128 KiB. A call for a line of argument
- *   goes as deep as the line is long and takes less than 256 KiB.
+ * - A call on lists, or on a number by itself, takes less than 32 KiB of stack, a call on a text
+ *   less than 72 KiB, a call for a reason less than 80 KiB, a call that mends less than 128 KiB. A
+ *   call for a line of argument goes as deep as the line is long and takes less than 256 KiB.
  * - No call allocates, keeps anything from one call to the next or calls back, so calls may run in
  *   several threads at once.
  */
@@ -35,7 +35,7 @@ extern "C" {
 /* The version. Its parts have their place here alone; by them it is a text, such as "1.2.3", and a
  * number to compare, such as 10203. */
 #define BATQEMULO_VERSION_MAJOR 0
-#define BATQEMULO_VERSION_MINOR 3
+#define BATQEMULO_VERSION_MINOR 4
 #define BATQEMULO_VERSION_PATCH 0
 #define BATQEMULO_VERSION                                                                          \
     BATQEMULO_PARTS(BATQEMULO_VERSION_MAJOR, BATQEMULO_VERSION_MINOR, BATQEMULO_VERSION_PATCH)
@@ -55,6 +55,9 @@ extern "C" {
 #define BATQEMULO_MAX_STATEMENTS 1024
 #define BATQEMULO_MAX_OBJECTIONS 4096
 #define BATQEMULO_MAX_TEXT_BYTES 65535
+
+/* A room of so many bytes has space for every number as it is written, such as 1987.1234. */
+#define BATQEMULO_MAX_NUMBER_BYTES 9
 
 /* A room of so many bytes has space for every listing, and for every reason. */
 #define BATQEMULO_MAX_LISTING_BYTES 131072
@@ -92,7 +95,7 @@ enum batqemulo_refusal {
     BATQEMULO_ACCEPTED = 0,
     BATQEMULO_TEXT_TOO_LONG = 1,       /* over BATQEMULO_MAX_TEXT_BYTES */
     BATQEMULO_TEXT_NOT_ENDED = 2,      /* not empty, and its last byte is not 10 */
-    BATQEMULO_LINE_SPOILED = 3,        /* the line */
+    BATQEMULO_LINE_SPOILED = 3,        /* the line; of a number by itself, which is none, 0 */
     BATQEMULO_STATEMENT_LATE = 4,      /* the line: a statement after an objection */
     BATQEMULO_NUMBER_ISSUED = 5,       /* the line: a statement's number that is already issued */
     BATQEMULO_TOO_MANY_STATEMENTS = 6, /* the line, for a text: over BATQEMULO_MAX_STATEMENTS */
@@ -124,6 +127,33 @@ enum batqemulo_kind {
 };
 
 /*
+ * Numbers of statements.
+ *
+ * A number is of one of two forms. A plain number is 1 to 8 decimal digits, the first not 0. A year
+ * number is a year of four digits, from 1000 to 2099, a point (byte 46), and a serial of 1 to 4
+ * digits, the first not 0. So 1987, 1987.1 and 1987.10 are three numbers.
+ *
+ * Where a call takes a number or writes one as a uint32_t, it is the number's code:
+ *
+ *   of a plain number    its value, 1 to 99999999
+ *   of a year number     100000000 + 10000 * year + serial; of 1987.14 it is 119870014
+ *
+ * So the codes of year numbers go from 110000001 to 120999999. 0, and every code that is of neither
+ * form, such as 100000000 or 119870000, is nobody's. Of two numbers the one with the smaller code
+ * is the earlier: plain numbers come before year numbers, and these go by year, then by serial.
+ */
+
+/* Reads a number as it is written, with nothing before or behind it. There is no room; the answer's
+ * value is the code. Refusals: 3, with place 0, exactly if it is no number. */
+batqemulo_answer batqemulo_number(const uint8_t *written, size_t written_len) BATQEMULO_CHECKED;
+
+/* Writes the number of this code. The answer's value is how many bytes it has, at most
+ * BATQEMULO_MAX_NUMBER_BYTES; no byte 0 is put behind them.
+ * Refusals: 3, with place 0, exactly if the code is nobody's; then 10. */
+batqemulo_answer batqemulo_number_text(uint32_t number, uint8_t *room,
+                                       size_t room_len) BATQEMULO_CHECKED;
+
+/*
  * Registers handed over as text.
  *
  * A text is lines, each ended by byte 10. The fields of a line are parted by one tab, byte 9:
@@ -131,12 +161,11 @@ enum batqemulo_kind {
  *   S  number    mark       a statement; its mark is R (read) or U (unread)
  *   O  objector  target     an objection of one statement against another, by their numbers
  *
- * A number is 1 to 8 decimal digits, the first not 0. No number is issued twice. All statement
- * lines come before all objection lines. A statement may object to itself, and two may object to
- * each other. No objection may come twice. There are no blank lines and no spaces. The empty text
- * is a register of no statements.
+ * No number is issued twice. All statement lines come before all objection lines. A statement may
+ * object to itself, and two may object to each other. No objection may come twice. There are no
+ * blank lines and no spaces. The empty text is a register of no statements.
  *
- * Each call but batqemulo_mend tests the text for these faults, in this order, and reports the
+ * Each call on a text but batqemulo_mend tests it for these faults, in this order, and reports the
  * first:
  *
  *    1  text_len is over BATQEMULO_MAX_TEXT_BYTES
@@ -220,7 +249,7 @@ batqemulo_answer batqemulo_sheet_update(const uint8_t *text, size_t text_len, ui
  * the one whose statement line comes first. The line has as many entries as the asked statement's
  * length and one more, at most BATQEMULO_MAX_LINE_ENTRIES; an open statement's is itself alone.
  *
- * Numbers from 1 to 99999999 stand for themselves; 0 and all others are on no statement line.
+ * The asked number and the entries are codes; one that is nobody's is on no statement line.
  * Refusals: 1, 2, then 3 to 9 line by line, then 14, 10. */
 batqemulo_answer batqemulo_text_line(const uint8_t *text, size_t text_len, uint32_t number,
                                      uint32_t *line, size_t line_len) BATQEMULO_CHECKED;
@@ -241,7 +270,7 @@ batqemulo_answer batqemulo_text_line(const uint8_t *text, size_t text_len, uint3
  * marks, gives the asked statement the same label and length. No reason has more than
  * BATQEMULO_MAX_LISTING_BYTES, and nothing is written behind its last byte 10.
  *
- * Numbers from 1 to 99999999 stand for themselves; 0 and all others are on no statement line.
+ * The asked number is a code; one that is nobody's is on no statement line.
  * Refusals: 1, 2, then 3 to 9 line by line, then 14, 10. */
 batqemulo_answer batqemulo_reason(const uint8_t *text, size_t text_len, uint32_t number,
                                   uint8_t *room, size_t room_len) BATQEMULO_CHECKED;
@@ -253,9 +282,9 @@ batqemulo_answer batqemulo_reason(const uint8_t *text, size_t text_len, uint32_t
 batqemulo_answer batqemulo_text_exercise(const uint8_t *text, size_t text_len, uint32_t number,
                                          uint32_t turns) BATQEMULO_CHECKED;
 
-/* Mends a text: writes a register that every other call accepts into the room, and beside it a
- * report of what was done. What is a register already is written byte for byte, and its report is
- * empty. Statements are settled first, then objections. Lines that stay keep their order.
+/* Mends a text: writes a register that every other call on a text accepts into the room, and beside
+ * it a report of what was done. What is a register already is written byte for byte, and its report
+ * is empty. Statements are settled first, then objections. Lines that stay keep their order.
  *
  *   cause
  *     2  dropped: the last line is not ended, whatever it holds

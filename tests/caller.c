@@ -14,8 +14,9 @@
 /* The most arrays that a call takes, and the bytes that one may have with its guards. */
 enum { ARRAYS = 5, SPACE = 1 << 21 };
 
-/* The numbers of the calls on lists are below this one, those of the calls on a text are not. */
-enum { ON_TEXT = 20 };
+/* The numbers of the calls on a text and of those on a number by itself begin here; those of the
+ * calls on lists begin at 0. */
+enum { ON_TEXT = 20, ON_NUMBER = 40 };
 
 /* A request: the call, the statement and the turns that are asked if the call asks them, and how
  * many arrays follow. */
@@ -136,6 +137,23 @@ static batqemulo_answer call_on_text(struct request request, const struct array 
     return (batqemulo_answer){0, 0};
 }
 
+static batqemulo_answer call_on_number(struct request request, const struct array *a) {
+    switch (request.call) {
+    case 40:
+        return batqemulo_number(a[0].lent, a[0].len);
+    case 41:
+        return batqemulo_number_text(request.statement, a[0].lent, a[0].len);
+    }
+    stop("a call on a number that is not there");
+    return (batqemulo_answer){0, 0};
+}
+
+static batqemulo_answer call(struct request request, const struct array *a) {
+    if (request.call < ON_TEXT)
+        return call_on_lists(request, a);
+    return request.call < ON_NUMBER ? call_on_text(request, a) : call_on_number(request, a);
+}
+
 int main(void) {
     struct array arrays[ARRAYS];
     struct request request;
@@ -146,8 +164,7 @@ int main(void) {
             stop("too many arrays");
         for (size_t i = 0; i < request.arrays; i++)
             take_array(&arrays[i]);
-        batqemulo_answer answer =
-            request.call < ON_TEXT ? call_on_lists(request, arrays) : call_on_text(request, arrays);
+        batqemulo_answer answer = call(request, arrays);
         write_all(&answer, sizeof answer);
         for (size_t i = 0; i < request.arrays; i++)
             write_all(arrays[i].start, arrays[i].size);

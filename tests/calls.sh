@@ -75,6 +75,8 @@ expect() {
         esac
 
         wanted[$name promise]=$promise
+        wanted[$promise applied]="$promise ${numbers[0]-} (now "
+        [ ${#lists[@]} = 0 ] || wanted[$promise applied]="$promise (now "
         wanted[$promise $result]=$name
         parameters="$(each '' ': list, ' "${lists[@]}")$(each '' ': number, ' "${numbers[@]}")$(each '' ': room, ' "${rooms[@]}")"
 
@@ -237,7 +239,7 @@ theorem_held() {
     call=${call//_/-}
     function=c-${function#batqemulo_}
     function=${function//_/-}
-    has "$said" "InRattleAndC $call.Asked $call.Learnt $function.Asked $function.Learnt (λ κs " && has "$said" " $promise (now " &&
+    has "$said" "InRattleAndC $call.Asked $call.Learnt $function.Asked $function.Learnt (λ κs " && has "$said" " ${wanted[$promise applied]-none}" &&
         has "${found[Contracts]}" "use Rattle.${crate%%/*}.proofs.${wanted[$promise Answer]}.Reads as $call" &&
         has "${found[Contracts]}" "use Rattle.batqemulo.proofs.c.${wanted[$promise CAnswer]}.Reads as $function"
 }
@@ -313,6 +315,7 @@ try 'twin: moves for pairs, and a contract that says nothing, are refused' refus
     'call_labels_lists::pairs_labels(' 'call_labels_lists::moves_labels(' \
     'InC (λ a. PairsLabels' '(InC (λ a. PairsLabels' '(now (labels .exit))) c ⌝' '(now (labels .exit))) c → c ≡ c) ⌝'
 try 'twin: the contract of another call is refused' refused crates/call_labels_text/src/lib.rt '⌜ TextLengths' '⌜ TextLabels'
+try 'twin: the bytes of another code are refused' refused crates/call_number/src/lib.rt '⌜ NumberText number' '⌜ NumberText 7'
 try 'twin: lists exchanged in a contract are refused' refused crates/call_kinds/src/lib.rt \
     'PairsKinds (now (marks .entry)) (now (objectors .entry)) (now (targets .entry))' \
     'PairsKinds (now (marks .entry)) (now (targets .entry)) (now (objectors .entry))'
@@ -339,5 +342,5 @@ while read -r name; do
 done < <(names_said)
 
 try 'the table has a line for each call, and no other' same "$(calls | sed 's/ .*//' | sort)" "$(in_table | sort)"
-try 'there are public calls' test "$(calls | wc -l)" -ge 32
+try 'there are public calls' test "$(calls | wc -l)" -ge 36
 finish

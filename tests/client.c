@@ -1,8 +1,8 @@
-/* A program as a customer would write it: it includes the header, hands two small registers over by
+/* A program as a customer would write it: it includes the header, hands small registers over by
  * every call and looks at what comes back. The rooms are taken from the heap at just the length
- * that is needed, so that valgrind sees any step outside them; each call gets rooms that nobody
- * has set, so that it sees too where an answer hangs on what was in them. With an argument, the
- * program does what valgrind has to notice. */
+ * that is needed, so that valgrind sees any step outside them; each call gets rooms that nobody has
+ * set, so that it sees too where an answer hangs on what was in them. With an argument, the program
+ * does what valgrind has to notice. */
 #include "batqemulo.h"
 
 #include <stdio.h>
@@ -28,12 +28,14 @@ struct example {
     uint16_t kind_lengths[MOST];
     const char *text;
     const char *listing;
-    /* one statement by its place and its number, and its line of argument told by each */
+    /* one statement by its place and its number's code, and its line of argument told by each and
+     * as it is written */
     uint32_t place;
     uint32_t number;
     size_t entries;
     uint32_t places[MOST];
     uint32_t numbers[MOST];
+    const char *written[MOST];
     /* the reason for it */
     const char *reason;
     /* the sheet, which is one byte, and its totals */
@@ -62,6 +64,7 @@ static const struct example game = {
     2,
     {2, 3},
     {103, 104},
+    {"103", "104"},
     "103\tfalls\t1\n104\t103\tfelling\t1\n",
     0x60,
     {2, 1, 1},
@@ -88,9 +91,38 @@ static const struct example chain = {
     4,
     {3, 2, 1, 0},
     {1, 2, 3, 4},
+    {"1", "2", "3", "4"},
     "1\tfalls\t3\n4\t3\tfelling\t1\n3\t2\tdelaying\t2\n2\t1\tfelling\t3\n",
     0x99,
     {0, 2, 2},
+};
+
+/* 1987 against 1987.14, 198714 against 1987, and 1987.1, which is unread, against itself: 1987.14,
+ * 1987, 198714 and 1987.1 are the places 0 to 3. */
+static const struct example years = {
+    "the acquisitions of 1987",
+    4,
+    {BATQEMULO_READ, BATQEMULO_READ, BATQEMULO_READ, BATQEMULO_UNREAD},
+    {BATQEMULO_STANDS, BATQEMULO_FALLS, BATQEMULO_STANDS, BATQEMULO_OPEN},
+    {2, 1, 0, NO},
+    3,
+    {1, 2, 3},
+    {0, 1, 3},
+    {BATQEMULO_DELAYING, BATQEMULO_FELLING, BATQEMULO_STANDOFF},
+    {2, 1, NO},
+    "S\t1987.14\tR\nS\t1987\tR\nS\t198714\tR\nS\t1987.1\tU\n"
+    "O\t1987\t1987.14\nO\t198714\t1987\nO\t1987.1\t1987.1\n",
+    "REGISTER\t4\t3\n1987.14\tstands\t2\n1987\tfalls\t1\n198714\tstands\t0\n1987.1\topen\t-\n"
+    "1987\t1987.14\tdelaying\t2\n198714\t1987\tfelling\t1\n1987.1\t1987.1\tstandoff\t-\n",
+    0,
+    119870014,
+    3,
+    {0, 1, 2},
+    {119870014, 1987, 198714},
+    {"1987.14", "1987", "198714"},
+    "1987.14\tstands\t2\n1987\t1987.14\tdelaying\t2\n198714\t1987\tfelling\t1\n",
+    0x19,
+    {1, 2, 1},
 };
 
 static unsigned passed, failed;
@@ -221,6 +253,31 @@ static void ask_line(const struct example *e) {
         batqemulo_text_line((const uint8_t *)e->text, strlen(e->text), e->number, line, e->entries);
     check(e, "line of a text", accepted(answer, e->entries) && memcmp(line, e->numbers, size) == 0);
     free(line);
+}
+
+/* The asked number is read as somebody has typed it, and those on its line are written back, in a
+ * room that is just as long and in the one that has space for every number, of which the rest stays
+ * as it was. */
+static void ask_numbers(const struct example *e) {
+    size_t typed = strlen(e->written[0]);
+    uint8_t *field = room(typed);
+    memcpy(field, e->written[0], typed);
+    check(e, "the asked number", accepted(batqemulo_number(field, typed), e->number));
+    free(field);
+    for (size_t i = 0; i < e->entries; i++) {
+        size_t bytes = strlen(e->written[i]);
+        uint8_t *text = room(bytes), large[BATQEMULO_MAX_NUMBER_BYTES];
+        batqemulo_answer answer = batqemulo_number_text(e->numbers[i], text, bytes);
+        check(e, "the text of a number",
+              accepted(answer, bytes) && memcmp(text, e->written[i], bytes) == 0);
+        check(e, "and back", accepted(batqemulo_number(text, bytes), e->numbers[i]));
+        free(text);
+        memset(large, 7, sizeof large);
+        answer = batqemulo_number_text(e->numbers[i], large, sizeof large);
+        check(e, "the text in a large room",
+              accepted(answer, bytes) && memcmp(large, e->written[i], bytes) == 0 &&
+                  all_are(large + bytes, sizeof large - bytes, 7));
+    }
 }
 
 /* The reason in a room that is just as long, then in one byte less, then in the room that has space
@@ -373,6 +430,17 @@ static void have_asked_refused(const struct example *e) {
     check(e, "the room after refused lines", memcmp(line, as_found, sizeof line) == 0);
 }
 
+/* A room that is a byte short, and none. */
+static void have_number_refused(const struct example *e) {
+    uint8_t text[BATQEMULO_MAX_NUMBER_BYTES];
+    memset(text, 7, sizeof text);
+    batqemulo_answer answer = batqemulo_number_text(e->number, text, strlen(e->written[0]) - 1);
+    check(e, "a short room for a number", refused(answer, BATQEMULO_ROOM_TOO_SHORT, 0));
+    answer = batqemulo_number_text(e->number, NULL, 0);
+    check(e, "no room for a number", refused(answer, BATQEMULO_ROOM_TOO_SHORT, 0));
+    check(e, "the room after refused numbers", all_are(text, sizeof text, 7));
+}
+
 /* The text is refused before the number, and the number before the room. */
 static void have_reason_refused(const struct example *e) {
     const uint8_t *text = (const uint8_t *)e->text;
@@ -485,6 +553,27 @@ static void have_mend_refused(void) {
     free(text);
 }
 
+/* What is no number, and codes that are nobody's, whatever the room. */
+static void have_no_numbers(void) {
+    static const struct example none = {.name = "no number"};
+    static const char *const fields[] = {"",        "0",          "07",    "100000000", "1987.",
+                                         "1987.01", "1987.12345", "999.1", "2100.1",    "1987,14"};
+    static const uint32_t codes[] = {0, 100000000, 110000000, 119870000, 121000000, UINT32_MAX};
+    uint8_t text[BATQEMULO_MAX_NUMBER_BYTES];
+    memset(text, 7, sizeof text);
+    for (size_t i = 0; i < sizeof fields / sizeof fields[0]; i++) {
+        batqemulo_answer answer = batqemulo_number((const uint8_t *)fields[i], strlen(fields[i]));
+        check(&none, fields[i], refused(answer, BATQEMULO_LINE_SPOILED, 0));
+    }
+    for (size_t i = 0; i < sizeof codes / sizeof codes[0]; i++) {
+        batqemulo_answer answer = batqemulo_number_text(codes[i], text, sizeof text);
+        check(&none, "a code that is nobody's", refused(answer, BATQEMULO_LINE_SPOILED, 0));
+        answer = batqemulo_number_text(codes[i], NULL, 0);
+        check(&none, "such a code, and no room", refused(answer, BATQEMULO_LINE_SPOILED, 0));
+    }
+    check(&none, "the room", all_are(text, sizeof text, 7));
+}
+
 /* Where every length is 0, every pointer may be NULL. */
 static void ask_of_nothing(void) {
     static const struct example nothing = {.name = "the empty register"};
@@ -495,6 +584,7 @@ static void ask_of_nothing(void) {
     check(&nothing, "labels of a text", accepted(batqemulo_text_labels(NULL, 0, NULL, 0), 0));
     check(&nothing, "lengths of a text",
           accepted(batqemulo_text_lengths((const uint8_t *)"", 0, NULL, 0), 0));
+    check(&nothing, "no number", refused(batqemulo_number(NULL, 0), BATQEMULO_LINE_SPOILED, 0));
     check(&nothing, "no room for its listing",
           refused(batqemulo_listing(NULL, 0, NULL, 0), BATQEMULO_ROOM_TOO_SHORT, 0));
     check(&nothing, "no line of argument",
@@ -544,7 +634,7 @@ int main(int argc, char **argv) {
     (void)argv;
     if (argc > 1)
         return update_unset();
-    const struct example *examples[] = {&game, &chain};
+    const struct example *examples[] = {&game, &chain, &years};
     for (size_t i = 0; i < sizeof examples / sizeof examples[0]; i++) {
         ask_labels(examples[i]);
         ask_lengths(examples[i]);
@@ -552,6 +642,7 @@ int main(int argc, char **argv) {
         ask_text(examples[i]);
         ask_listing(examples[i]);
         ask_line(examples[i]);
+        ask_numbers(examples[i]);
         ask_reason(examples[i]);
         ask_sheet(examples[i]);
         update_sheet(examples[i]);
@@ -561,11 +652,13 @@ int main(int argc, char **argv) {
         be_refused(examples[i]);
         have_text_refused(examples[i]);
         have_asked_refused(examples[i]);
+        have_number_refused(examples[i]);
         have_reason_refused(examples[i]);
         have_sheet_refused(examples[i]);
     }
     mend_old();
     have_mend_refused();
+    have_no_numbers();
     ask_of_nothing();
     ask_sheet_of_nothing();
     printf("%u passed, %u failed\n", passed, failed);

@@ -117,7 +117,7 @@ three_ways() {
 
 # numbers FILE: the first and the last that are issued, and one that is not
 numbers() {
-    sed -n 's/^S\t\([0-9]*\)\t.*/\1/p' "$1" | sed -n '1p;$p'
+    sed -n 's/^S\t\([0-9.]*\)\t.*/\1/p' "$1" | sed -n '1p;$p'
     echo 12345
 }
 
@@ -199,10 +199,10 @@ asked_of_nothing() {
     diff "$work/right.said" "$work/said" && ends 1
 }
 
-# beside_a_file: a number is a number, whatever files there are
+# beside_a_file WORD FILE: what is taken for a number is one, whatever files there are
 beside_a_file() {
-    filter reason 101 <"$work/game" >"$work/right"
-    mkdir -p "$work/beside" && touch "$work/beside/101" && (cd "$work/beside" && prints "$work/right" reason 101 <"$work/game")
+    filter reason "$1" <"$2" >"$work/right"
+    mkdir -p "$work/beside" && touch "$work/beside/$1" && (cd "$work/beside" && prints "$work/right" reason "$1" <"$2")
 }
 
 # endless: an input without an end is refused, and the command ends
@@ -863,7 +863,8 @@ by_shell() {
     chmod 755 "$stage/by_shell"
     local command=$stage/by_shell
     prints examples/game.listing list "$work/game" && damaged 'S 1 R\r\n' 3 1 'S<tab>1<tab>R<CR>' windows &&
-        keeps_lines "$work/text" && asked 5 asked/5 && warns 1 'S 1 R\nS 2' && misused list a b && full list "$work/game" &&
+        keeps_lines "$work/text" && asked 5 asked/5 && beside_a_file 1987.14 "$work/years" && warns 1 'S 1 R\nS 2' &&
+        misused list a b && full list "$work/game" &&
         misused mend --report && dashed --report -x && cannot none list "$work/none" && all_refusals
 }
 
@@ -1183,7 +1184,9 @@ cp examples/game.txt "$work/game"
 cp examples/twice.txt "$work/twice"
 cp examples/quilt.txt "$work/whole"
 typed 'S 1 R\nS 2 U\nO 1 2\n' >"$work/sound"
-chmod 644 "$work"/{game,twice,whole,sound}
+typed 'S 1987 R\nS 198714 U\nS 1987.1 R\nS 1987.10 U\nS 1987.14 R\nO 1987.1 1987.10\nO 1987 1987.14\nO 1987.14 198714\n' \
+    >"$work/years"
+chmod 644 "$work"/{game,twice,whole,sound,years}
 awk 'BEGIN {
     for (x = 0; x < 300; x++) printf "S\t%d\tR\n", 10000000 + x
     for (x = 0; x < 300; x++) for (y = 0; y < 10; y++) printf "O\t%d\t%d\n", 10000000 + x, 10000000 + (x + y) % 300
@@ -1209,7 +1212,13 @@ try 'list --' prints examples/game.listing list -- <"$work/game"
 try 'reason -- 101 FILE' prints "$work/right" reason -- 101 "$work/game"
 try 'reason 101 -- FILE' prints "$work/right" reason 101 -- "$work/game"
 try 'mend -- FILE' prints "$work/game" mend -- "$work/game"
-try 'reason 101, where a file is called so' beside_a_file
+try 'reason 101, where a file is called so' beside_a_file 101 "$work/game"
+try 'reason 1987.14, where a file is called so' beside_a_file 1987.14 "$work/years"
+try 'a file that is called by a date would be noticed' fails beside_a_file 1987.12.31 "$work/years"
+for number in 1987 198714 1987.1 1987.10 1987.14; do
+    filter reason "$number" <"$work/years" >"$work/right"
+    three_ways "reason $number beside year numbers" "$work/years" reason "$number"
+done
 try 'an input without an end' endless
 try 'a file by its name, without standard input' prints examples/game.listing list "$work/game" <&-
 
@@ -1422,7 +1431,6 @@ try 'neither S nor O' damaged 'X 1 R\n' 3 1 'X<tab>1<tab>R' first
 try 'neither S nor O, and neither a number' damaged 'X y R\n' 3 1 'X<tab>y<tab>R' first digits/y
 try 'too many fields' damaged 'S 1 R 5\n' 3 1 'S<tab>1<tab>R<tab>5' too-many
 try 'too many fields of an objection' damaged 'S 1 R\nO 1 1 1\n' 3 2 'O<tab>1<tab>1<tab>1' too-many
-try 'a number with a point' damaged 'S 1.5 R\n' 3 1 'S<tab>1.5<tab>R' digits/1.5
 try 'a number with a comma' damaged 'S 1,024 R\n' 3 1 'S<tab>1,024<tab>R' digits/1,024
 try 'a number with a sign' damaged 'S +5 R\n' 3 1 'S<tab>+5<tab>R' digits/+5
 try 'a target that is no number' damaged 'S 1 R\nO 1 R\n' 3 2 'O<tab>1<tab>R' digits/R
@@ -1442,7 +1450,52 @@ try 'a very long line of tabs' \
 try 'a very long number, shown' \
     damaged "S $(printf '7%.0s' {1..300}) R\n" 3 1 "S<tab>$(printf '7%.0s' {1..114}) .." "nine/$(printf '7%.0s' {1..40}) ../300"
 try 'a very long number' short_lines "S $(printf '1%.0s' {1..3000}) R\n"
+try 'a very long serial' short_lines "S 1987.$(printf '1%.0s' {1..3000}) R\n"
 try 'a very long word for a number' short_lines "S $(printf 'x%.0s' {1..3000}) R\n"
+
+for number in .14 1.5 999.1 0999.1 2100.1 3000.1 19870.1; do
+    try "no year: $number" damaged "S $number R\n" 3 1 "S<tab>$number<tab>R" "year/$number"
+done
+for number in 1987.0 1987.01 2099.0001 1000.00000; do
+    try "a serial that begins with 0: $number" damaged "S $number R\n" 3 1 "S<tab>$number<tab>R" "serial-zero/$number"
+done
+for number in 1987.14.2 1987..14 14.12.1987 ...; do
+    try "points: $number" damaged "S $number R\n" 3 1 "S<tab>$number<tab>R" "points/$number"
+done
+for number in 1987.1a l987.14 1987.l4 1987.1O x. 1987.R.2; do
+    try "a letter: $number" damaged "S $number R\n" 3 1 "S<tab>$number<tab>R" "letter/$number"
+done
+for number in 1987.+1 '1987."14"' 1987-14 1987:14 1987,014 999,1 1987,14,2 1987,14.2; do
+    try "neither form: $number" damaged "S $number R\n" 3 1 "S<tab>$number<tab>R" "digits/$number"
+done
+try 'no serial' damaged 'S 1987. R\n' 3 1 'S<tab>1987.<tab>R' no-serial/1987.
+try 'a serial of five digits' damaged 'S 1987.12345 R\n' 3 1 'S<tab>1987.12345<tab>R' serial-long/1987.12345/5
+try 'a serial of eight digits' damaged 'S 1987.12345678 R\n' 3 1 'S<tab>1987.12345678<tab>R' serial-long/1987.12345678/8
+try 'neither a year nor a serial' damaged 'S . R\n' 3 1 'S<tab>.<tab>R' year/. no-serial/.
+try 'no year, and a serial that begins with 0' damaged 'S 1.024 R\n' 3 1 'S<tab>1.024<tab>R' year/1.024 serial-zero/1.024
+try 'a comma for the point' damaged 'S 1987,14 R\n' 3 1 'S<tab>1987,14<tab>R' comma-for-point/1987,14/1987.14
+try 'a comma for the point, and semicolons' \
+    damaged 'S;1987,14;R\n' 3 1 'S;1987,14;R' semicolon comma-for-point/1987,14/1987.14
+try 'a comma for the point of a target' \
+    damaged 'S 1 R\nO 1 2099,9999\n' 3 2 'O<tab>1<tab>2099,9999' comma-for-point/2099,9999/2099.9999
+try 'a letter of another alphabet behind a point' \
+    damaged 'S 1987.\0303\0244 R\n' 3 1 'S<tab>1987.<C3><A4><tab>R' 'digits/1987.<C3><A4>'
+try 'a byte that controls behind a point' damaged 'S 1987.\0033 R\n' 3 1 'S<tab>1987.<1B><tab>R' 'digits/1987.<1B>'
+try 'an objector without a serial, a target without a year' \
+    damaged 'S 1 R\nO 1987. 87.14\n' 3 2 'O<tab>1987.<tab>87.14' no-serial/1987. year/87.14
+try 'the same damage twice' damaged 'S 1 R\nO 1987. 1987.\n' 3 2 'O<tab>1987.<tab>1987.' no-serial/1987.
+for number in 1000.1 1987.14 1999.9999 2000.10 2099.9999; do
+    try "nothing is said of the number $number" damaged "S $number r\n" 3 1 "S<tab>$number<tab>r" lower
+done
+try 'nothing is said of an objector of a year' damaged 'O 1987.14 07\n' 3 1 'O<tab>1987.14<tab>07' zero/07
+try 'nothing is said of a target of a year' damaged 'O 07 1987.14\n' 3 1 'O<tab>07<tab>1987.14' zero/07
+try 'commas beside a year number' damaged 'S,1987.14,R\n' 3 1 'S,1987.14,R' comma
+try 'spaces beside a year number' damaged 'S_1987.14_R\n' 3 1 'S<space>1987.14<space>R' space
+try 'a space in a year number' damaged 'S 1987._14 R\n' 3 1 'S<tab>1987.<space>14<tab>R' space
+try 'a missing tab behind a year number' damaged 'S 1987.14R\n' 3 1 'S<tab>1987.14R' tab-missing
+try 'no last line end behind a year number' damaged 'S 1 R\nO 1987.14 1' 2 0 'O<tab>1987.14<tab>1' unended/2
+try 'another word in a hint would be noticed' fails damaged 'S 1987.0 R\n' 3 1 'S<tab>1987.0<tab>R' serial-zero/1987.00
+try 'a number said to be none would be noticed' fails damaged 'S 1987.14 r\n' 3 1 'S<tab>1987.14<tab>r' lower digits/1987.14
 
 try 'a late statement' damaged 'S 1 R\nO 1 1\nS 2 R\n' 4 3 'S<tab>2<tab>R' objection/2
 try 'a late statement, behind two objections' damaged 'S 1 R\nS 3 R\nO 1 1\nO 1 3\nS 2 R\n' 4 5 'S<tab>2<tab>R' objection/3
@@ -1462,6 +1515,29 @@ try 'a repeated objection' damaged 'S 1 R\nS 2 R\nO 1 2\nO 2 1\nO 1 2\n' 8 5 'O<
 try 'a repeated objection against itself' damaged 'S 1 R\nO 1 1\nO 1 1\n' 8 3 'O<tab>1<tab>1' said/1/1/2
 try 'the 4,097th objection' beyond full_of_objections 'O 1 1\n' 9 4161 'O<tab>1<tab>1' most-objections
 try 'the 4,097th objection, by an unknown one' beyond full_of_objections 'O 99 1\n' 9 4161 'O<tab>99<tab>1' most-objections
+try 'a late statement with a year number' \
+    damaged 'S 1987.1 R\nO 1987.1 1987.1\nS 1987.10 R\n' 4 3 'S<tab>1987.10<tab>R' objection/2
+try 'a year number issued twice' damaged 'S 1987.1 R\nS 1987.10 R\nS 1987.1 U\n' 5 3 'S<tab>1987.1<tab>U' issued/1987.1/1
+try 'a year number issued twice, with another digit behind it' \
+    damaged 'S 1987.1 R\nS 1987.10 R\nS 1987.10 U\n' 5 3 'S<tab>1987.10<tab>U' issued/1987.10/2
+try 'a plain number issued twice, and the same digits with a point' \
+    damaged 'S 1987.14 R\nS 198714 R\nS 198714 U\n' 5 3 'S<tab>198714<tab>U' issued/198714/2
+try 'the 1,025th statement, with a year number' \
+    beyond full_register 'S 1987.14 R\n' 6 1025 'S<tab>1987.14<tab>R' most-statements
+try 'an unknown year number' damaged 'S 1987.1 R\nO 1987.1 1987.10\n' 7 2 'O<tab>1987.1<tab>1987.10' unknown/1987.10
+try 'an unknown year, and that year as a number' damaged 'S 1987 R\nO 1987.1 1987\n' 7 2 'O<tab>1987.1<tab>1987' unknown/1987.1
+try 'an unknown number without its point' damaged 'S 1987.14 R\nO 198714 1987.14\n' 7 2 'O<tab>198714<tab>1987.14' unknown/198714
+try 'two unknown numbers of one value' \
+    damaged 'O 1987.1 1987.10\n' 7 1 'O<tab>1987.1<tab>1987.10' unknown/1987.1 unknown/1987.10
+try 'a year number that is issued only later' \
+    damaged 'S 1987.1 R\nO 1987.10 1987.1\nS 1987.100 R\nS 1987.10 R\n' 7 2 'O<tab>1987.10<tab>1987.1' issued-late/1987.10/4
+try 'a repeated objection of year numbers' \
+    damaged 'S 1987.1 R\nS 1987.10 R\nO 1987.1 1987.10\nO 1987.10 1987.1\nO 1987.10 1987.10\nO 1987.10 1987.1\n' 8 6 \
+    'O<tab>1987.10<tab>1987.1' said/1987.10/1987.1/4
+try 'the 4,097th objection, by a year number' \
+    beyond full_of_objections 'O 1987.14 1\n' 9 4161 'O<tab>1987.14<tab>1' most-objections
+try 'another number of the same value would be noticed' \
+    fails damaged 'S 1987.1 R\nS 1987.10 R\nS 1987.10 U\n' 5 3 'S<tab>1987.10<tab>U' issued/1987.10/1
 try 'a text that is too long' long_told too_long
 try 'a text that is too long, in UTF-16' long_told too_wide utf16
 typed 'S 1 R\nS 1 R\n' >"$work/text"
@@ -1486,6 +1562,8 @@ try 'a sound text would be noticed' fails damaged 'S 1 R\n' 3 1 'S<tab>1<tab>R'
 try 'reason: a text that is too long' by_reason long_told too_long
 try 'reason: no last line end' by_reason damaged 'S 1 R\nS 2 U\nO 1 2' 2 0 'O<tab>1<tab>2' unended/3
 try 'reason: a comma' by_reason damaged 'S,1,R\n' 3 1 'S,1,R' comma
+try 'reason: a comma for the point' \
+    by_reason damaged 'S 1987,14 R\n' 3 1 'S<tab>1987,14<tab>R' comma-for-point/1987,14/1987.14
 try 'reason: a late statement' by_reason damaged 'S 1 R\nO 1 1\nS 2 R\n' 4 3 'S<tab>2<tab>R' objection/2
 try 'reason: a number issued twice' by_reason damaged 'S 1 R\nS 1 U\n' 5 2 'S<tab>1<tab>U' issued/1/1
 try 'reason: the 1,025th statement' by_reason beyond full_register 'S 1025 R\n' 6 1025 'S<tab>1025<tab>R' most-statements
@@ -1493,8 +1571,12 @@ try 'reason: an unknown target' by_reason damaged 'S 1 R\nO 1 9\n' 7 2 'O<tab>1<
 try 'reason: a repeated objection' by_reason damaged 'S 1 R\nO 1 1\nO 1 1\n' 8 3 'O<tab>1<tab>1' said/1/1/2
 try 'reason: the 4,097th objection' by_reason beyond full_of_objections 'O 1 1\n' 9 4161 'O<tab>1<tab>1' most-objections
 try 'reason: a number that is not issued' asked 5 asked/5
-try 'reason: the greatest number' asked 99999999 asked/99999999
-for word in 07 0 123456789 five 1.5 +1 S '1 2' '%1&'; do
+try 'reason: the greatest plain number' asked 99999999 asked/99999999
+for word in 1000.1 1987.14 1999.9999 2000.1 2099.9999; do
+    try "reason: the year number $word is not issued" asked "$word" "asked/$word"
+done
+for word in 07 0 123456789 119870014 five 1.5 +1 S '1 2' '%1&' 0999.1 2100.1 19870.1 1987. 1987.0 1987.01 1987.12345 .14 \
+    1987.14.2 999.1 1987,14 1987.1a 1987.14_ 1987.1234x; do
     try "reason: $word is no number" asked "$word" "asked-no-number/$word"
 done
 try 'reason: an empty word is no number' asked '' 'asked-no-number/an empty word'
@@ -1504,6 +1586,7 @@ for text in examples/*.txt; do
     try "clean ${text##*/}: nothing to do" stays "$text"
 done
 try 'clean: the sound register' stays "$work/sound"
+try 'clean: year numbers' stays "$work/years"
 try 'clean: Windows line ends' restored 'sed "s/$/\r/"' windows/"$(counted 3)"
 try 'clean: one Windows line end' restored 'sed "2s/$/\r/"' windows/"$(counted 1)"
 try 'clean: Windows line ends, twice' restored 'sed "s/$/\r\r/"' windows/"$(counted 3)"
@@ -1525,11 +1608,16 @@ for code in UTF-16LE UTF-16BE; do
         restored "{ printf '\357\273\277' && sed 's/$/\t\r/' '$work/sound' | head -c -1; } | iconv -f UTF-8 -t $code" \
         utf16/"$(counted 3)" windows/"$(counted 3)" tabs/"$(counted 3)" unended/"$(counted 1)"
 done
+sed 's/$/\r/' "$work/years" >"$work/text"
+try 'clean: Windows line ends behind year numbers' cleans "$work/text" "$work/years" windows/"$(counted 8)"
+iconv -f UTF-8 -t UTF-16LE <"$work/years" >"$work/text"
+try 'clean: year numbers in UTF-16' cleans "$work/text" "$work/years" utf16/"$(counted 8)"
 try 'clean: another count would be noticed' fails restored 'sed "s/$/\r/"' windows/"$(counted 2)"
 try 'clean: something not told would be noticed' fails restored 'sed "s/$/\r/"' windows/"$(counted 3)" tabs/"$(counted 1)"
 try 'clean: what is not restored would be noticed' fails restored 'sed "s/\t/,/g"' nothing
 for words in 'S,1,R\n' 'S_1_R\n' 's 1 R\n' 'Kind Number Mark\nS 1 R\n' 'S 07 R\n' 'S 1 R\n\nS 2 R\n' 'S 1 R 5\n' ' S 1 R\n' \
-    'S\r 1 R\n' 'S 1 R\n\0357\0273\0277S 2 R\n' 'S 1 R\nS \0000 R\n' 'S 1 R_\n' 'O 1 2\nS 1 R\n' 'S 1 R\nS 1 R\n'; do
+    'S\r 1 R\n' 'S 1 R\n\0357\0273\0277S 2 R\n' 'S 1 R\nS \0000 R\n' 'S 1 R_\n' 'O 1 2\nS 1 R\n' 'S 1 R\nS 1 R\n' \
+    'S 1987,14 R\n' 'S 1987. R\n' 'S .14 R\n' 'S 1987.014 R\n' 'S 1987._14 R\n'; do
     try "clean leaves $words" left "$words"
 done
 try 'clean: no line of the damaged texts goes' damages_kept
@@ -1550,6 +1638,8 @@ try 'mend warns of a spoiled line' warns 1 'S 1 R\nS 2\n'
 try 'mend warns of three lines' warns 3 'S 1 R\nx\n\nS 2'
 try 'mend warns of Windows line ends' warns 3 'S 1 R\r\nS 2 R\r\nO 2 1\r\n'
 try 'mend does not warn of a register' warns 0 'S 1 R\nS 2 R\nO 2 1\n'
+try 'mend does not warn of year numbers' warns 0 'S 1987.1 R\nS 1987.10 R\nO 1987.1 1987.10\n'
+try 'mend warns of a spoiled year number' warns 1 'S 1987.1 R\nS 1987.01 R\n'
 try 'mend does not warn of a second statement on line 3' warns 0 'S 1 R\nS 2 R\nS 2 R\n'
 try 'mend does not warn of an unknown number on line 2' warns 0 'S 1 R\nO 2 3\n'
 try 'mend does not warn of a repeat, nor of a late statement' warns 0 'S 1 R\nO 1 1\nO 1 1\nS 3 R\n'

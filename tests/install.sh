@@ -183,9 +183,10 @@ shown() {
     groff -man -Tascii -P-cbou "$page" | tr -d '[:space:]'
 }
 
-# declared: the header's calls without any space, a line each
+# declared: the header's calls without any space, a line each; in the header some take one line, most take more
 declared() {
-    sed -n '/^batqemulo_answer /,/;$/p' "$header" | sed 's/ BATQEMULO_CHECKED;/;/' | tr -d '[:space:]' | sed 's/;/;\n/g'
+    sed -n -e '/^batqemulo_answer .*;$/ { p; d }' -e '/^batqemulo_answer /,/;$/p' "$header" |
+        sed 's/ BATQEMULO_CHECKED;/;/' | tr -d '[:space:]' | sed 's/;/;\n/g'
 }
 
 # numbers: the header's names for numbers, each with its number, but for the version's parts
@@ -212,7 +213,7 @@ same_calls() {
 
 # those of the refusals, of marks, labels and kinds, and the limits
 same_numbers() {
-    numbers | said $((17 + 2 + 3 + 4 + 10))
+    numbers | said $((17 + 2 + 3 + 4 + 11))
 }
 
 # no_others: the man page has no name that the header lacks

@@ -38,6 +38,12 @@ writes() {
     typed "$1" | fresh prints "$work/right" && reports
 }
 
+# drops NUMBER: it spoils a line of a statement, of an objector and of a target, and these go without a mark
+drops() {
+    writes "S 1 R\nS $1 R\nO 1 1\nO $1 1\nO 1 $1\n" 'S 1 R\nO 1 1\n' \
+        '2 dropped 3\n4 dropped 3\n5 dropped 3\n'
+}
+
 # tells_all FILE: without a word, the report goes to standard error
 tells_all() {
     local words=() status
@@ -183,6 +189,33 @@ try 'a last line without an end' writes 'S 1 R\nS 1 R' 'S 1 R\n' '2 dropped 2\n'
 try 'nothing to report' writes 'S 1 R\n' 'S 1 R\n' ''
 try 'no input' writes '' '' ''
 refused_texts others_refuse
+
+for text in 'S 1987.14 R\n' 'S 1000.1 R\nS 2099.9999 U\nO 1000.1 2099.9999\nO 2099.9999 1000.1\n' \
+    'S 1987 R\nS 19871 R\nS 198710 R\nS 1987.1 R\nS 1987.10 R\nO 1987.1 1987.10\nO 1987.10 1987.1\n'; do
+    try "year numbers stay: $text" writes "$text" "$text" ''
+done
+for number in 0999.1 2100.1 19870.1 1987. 1987.0 1987.01 1987.12345 .14 1987.14.2 999.1 1987,14 119870014; do
+    try "no number: $number" drops "$number"
+done
+try 'a second statement with a year number' \
+    writes 'S 1987.14 R\nS 198714 R\nS 1987.14 R\n' 'S 1987.14 U\nS 198714 R\n' '3 dropped 5\n'
+try 'a late statement with a year number' writes 'S 1987.1 R\nO 1987.10 1987.1\nS 1987.10 R\n' \
+    'S 1987.1 R\nS 1987.10 R\nO 1987.10 1987.1\n' '3 moved 4\n'
+try 'a late second statement with a year number' \
+    writes 'S 1987.1 R\nO 1987.1 1987.1\nS 1987.1 R\n' 'S 1987.1 U\nO 1987.1 1987.1\n' '3 dropped 5\n'
+try 'a year number that is spoiled makes nothing late' \
+    writes 'O 1987.01 1\nS 1987.1 R\n' 'S 1987.1 R\n' '1 dropped 3\n'
+try 'an unknown objector, and its digits with a point' \
+    writes 'S 1987.14 R\nO 198714 1987.14\n' 'S 1987.14 U\n' '2 dropped 7\n'
+try 'an unknown objector of a year' \
+    writes 'S 1987.1 R\nS 1987 R\nO 1987.10 1987.1\n' 'S 1987.1 U\nS 1987 R\n' '3 dropped 7\n'
+try 'an unknown target of a year' \
+    writes 'S 1987.1 R\nO 1987.1 1987.10\n' 'S 1987.1 R\n' '2 dropped 7\n'
+try 'a repeated objection of year numbers' \
+    writes 'S 1987.1 R\nS 1987.10 R\nO 1987.1 1987.10\nO 1987.10 1987.1\nO 1987.1 1987.10\n' \
+    'S 1987.1 R\nS 1987.10 R\nO 1987.1 1987.10\nO 1987.10 1987.1\n' '5 dropped 8\n'
+try 'a year number on a last line without an end' \
+    writes 'S 1987.14 R\nS 1987.15 R' 'S 1987.14 R\n' '2 dropped 2\n'
 
 mkdir -p "$work/01"
 try "01's examples are written" "$built/cargo/release/outside" examples "$work/01"

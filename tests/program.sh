@@ -70,6 +70,46 @@ too_many_objections() {
     { cat "$work/longest" && printf 'O\t1\t1\n'; } | refuses 9 5121
 }
 
+# lists WORDS ROWS: a text that is typed has this listing
+lists() {
+    typed "$2" >"$work/right"
+    typed "$1" | prints "$work/right"
+}
+
+# no_years: what comes near a year number and is none
+no_years=(0999.1 2100.1 19870.1 1987. 1987.0 1987.01 1987.12345 .14 1987.14.2 999.1 '1987,14' 3000.1
+    . 1987..1 1987.1. 1987.0014 1987.a 1987.1a l987.14 1987/14 1987.+1 1987.-1 119870014)
+
+# spoils NUMBER: it spoils a line of a statement, of an objector and of a target
+spoils() {
+    refuses_words 3 2 "S 1 R\nS $1 R\n" && refuses_words 3 2 "S 1 R\nO $1 1\n" &&
+        refuses_words 3 2 "S 1 R\nO 1 $1\n"
+}
+
+# spoils_nothing: a year number would be seen there
+spoils_nothing() { ! spoils 1987.14; }
+
+# listed NUMBER: it is listed as it is written, as that of a statement, of an objector and of a target
+listed() {
+    lists "S 1 R\nS $1 R\nO 1 $1\nO $1 1\n" \
+        "REGISTER 2 2\n1 open -\n$1 open -\n1 $1 standoff -\n$1 1 standoff -\n"
+}
+
+# years: a text of 65,530 bytes, in which every number is a year number of nine bytes: a chain of 1,024
+# statements, and more of them against later ones, at odd distances
+years() {
+    awk 'function number(x) { return (1000 + x) "." (9999 - x) }
+    BEGIN {
+        for (x = 0; x < 1024; x++) printf "S\t%s\tR\n", number(x)
+        left = 2327
+        for (step = 1; left > 0; step += 2)
+            for (x = step; x < 1024 && left > 0; x++) {
+                printf "O\t%s\t%s\n", number(x - step), number(x)
+                left--
+            }
+    }'
+}
+
 # as_typed: the README's command, with a file's name where none goes, lists nothing
 as_typed() {
     [ "$(./list examples/deed.txt </dev/null 2>&1)" = 'usage: ./list <register' ]
@@ -78,6 +118,7 @@ as_typed() {
 sound 65535 >"$work/most"
 sound 65536 >"$work/over"
 longest >"$work/longest"
+years >"$work/years"
 
 for listing in examples/*.listing; do
     example=${listing%.listing}
@@ -120,6 +161,27 @@ try 'an input without an end' endless
 refused_texts refuses_words
 try 'the 1,025th statement' too_many_statements
 try 'the 4,097th objection' too_many_objections
+
+for number in 99999999 1987 198714 1000.1 1000.9999 1987.10 1987.14 1999.9999 2000.1 2099.9999; do
+    try "$number in every field" listed "$number"
+done
+try 'four numbers of nearly the same digits' \
+    lists 'S 1987.1 R\nS 1987 R\nS 19871 U\nS 1987.10 R\nO 1987.10 1987.1\n' \
+    'REGISTER 4 1\n1987.1 falls 1\n1987 stands 0\n19871 open -\n1987.10 stands 0\n1987.10 1987.1 felling 1\n'
+for number in "${no_years[@]}"; do
+    try "no number: $number" spoils "$number"
+done
+try 'a number that spoils nothing would be noticed' spoils_nothing
+try 'a year number issued twice' refuses_words 5 3 'S 1987.14 R\nS 198714 R\nS 1987.14 U\n'
+try 'a late year number' refuses_words 4 3 'S 1987.14 R\nO 1987.14 1987.14\nS 1987.15 R\n'
+try 'an unknown objector of a year' refuses_words 7 2 'S 1987.1 R\nO 1987.10 1987.1\n'
+try 'an unknown target, and its digits with a point' refuses_words 7 3 'S 1987.14 R\nO 1987.14 1987.14\nO 1987.14 198714\n'
+try 'a repeated objection of year numbers' \
+    refuses_words 8 5 'S 1987.1 R\nS 1987.10 R\nO 1987.1 1987.10\nO 1987.10 1987.1\nO 1987.1 1987.10\n'
+try 'a year number on a line that is not ended' refuses_words 2 0 'S 1987.14 R'
+try 'there are 65,530 bytes with year numbers' bytes "$work/years" 65530
+try '65,530 bytes with year numbers' agrees "$work/years"
+try '65,530 bytes with year numbers, in pieces' in_pieces "$work/years" 4001
 
 try 'a listing of more than 65,536 bytes' agrees "$work/longest"
 try 'a listing that is taken slowly' slow_reader "$work/longest"

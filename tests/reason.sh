@@ -10,10 +10,15 @@ tried=reason
 used='NUMBER <register'
 . tests/trials.sh
 
-# words that are no number of 01, on a register where the number that they come near is issued
+# words that are no number, of either form, on a register where the number that they come near is issued
 no_numbers=('' 0 00 05 007 000000005 100000000 500000000 999999999 4294967301 18446744073709551621
     +5 ' 5' '5 ' $'5\t' $'5\n' $'\n5' 5.0 '5,' 5a a5 5R 0x5 5e0 5_0 /5 5: $'\xff5' $'5\xff'
-    5/6 '5 6' five 5- 12345678901234567890123456789)
+    5/6 '5 6' five 5- 12345678901234567890123456789
+    0999.1 2100.1 19870.1 1987. 1987.0 1987.01 1987.12345 .14 1987.14.2 999.1 '1987,14'
+    119870014 110000001 120999999 119870000 1987.014 1987.0014 01987.14 987.14 3000.1 0000.1 11987.1
+    . .. 1987.. 1987..14 14.1987 1987/14 1987-14 1987:14 '1987 14' $'1987\t14' $'1987\x9e14' 1987.1/ 1987.:4
+    1987.1a 1987.a 1a87.14 1987.+1 1987.-1 +1987.1 ' 1987.14' '1987.14 ' $'1987.14\n' $'\n1987.14'
+    '1987,1234' 1987.123a 1987.0123 1987.12.4 198.12345 19871.234 1987.123/ 1987.01234 '1987.1234 ' 11987.1234)
 
 # long_reason: a text whose reason for 2023 has every one of 4,096 objections, and more than 70 KiB: a
 # chain of 1,024 statements, and those that fall against those that stand later, which only delays them
@@ -32,7 +37,7 @@ long_reason() {
 
 # numbers FILE: those of the statements, in listed order
 numbers() {
-    sed -n 's/^S\t\([0-9]*\)\t.*/\1/p' "$1"
+    sed -n 's/^S\t\([0-9.]*\)\t.*/\1/p' "$1"
 }
 
 # agrees_on_all FILE: what is printed for the number of each statement is what the second solver has
@@ -71,10 +76,10 @@ as_in_the_tutorial() {
     ./reason 2002 <examples/deed.txt | cmp - "$work/right"
 }
 
-# a number that is issued, and one that is not, and one that is none, for a text that is refused
+# numbers of either form, issued or not, and words that are none, for a text that is refused
 text_refused_first() {
     local word
-    for word in 1 3 07; do
+    for word in 1 3 07 1987.14 1987.014; do
         asking "$word" refuses_words "$@" || return
     done
 }
@@ -89,6 +94,11 @@ long_reason >"$work/long"
 typed 'S 5 R\nS 6 R\nS 7 R\nO 5 6\nO 6 7\nO 7 6\n' >"$work/three"
 typed 'S 1 R\nS 5 R\nS 6 R\nS 7 R\nS 8 R\nS 9 R\nO 5 1\nO 7 1\nO 6 5\nO 7 6\nO 8 7\nO 9 8\n' >"$work/late"
 typed 'S 99999999 R\nO 99999999 99999999\n' >"$work/greatest"
+{
+    typed 'S 5 R\nS 198714 R\nS 1987 R\nS 1987.1 R\nS 1987.10 U\nS 1987.14 R\nS 1987.1234 R\n'
+    typed 'S 1000.1 R\nS 1988.2345 R\nS 2099.9999 R\nO 1987.14 198714\nO 1987.1234 1987.14\nO 1987.1 1987.14\n'
+    typed 'O 1000.1 1987.1234\nO 2099.9999 1000.1\nO 198714 1000.1\nO 1987.1 1987\nO 1987.10 1987.1\n'
+} >"$work/years"
 
 try 'stands without an objection' reads 5 "$work/three" '5 stands 0\n'
 try 'falls, without coming back' reads 6 "$work/three" '6 falls 1\n5 6 felling 1\n'
@@ -99,8 +109,23 @@ try 'falls, by an objection of its own length and not by a later one' \
 try 'falls, without thousands of later objections' late_left_out
 try 'open, without the idle objection' \
     reads 102 examples/game.txt '102 open -\n102 101 standoff -\n101 102 standoff -\n'
-try 'the greatest number' \
+try 'the greatest plain number' \
     reads 99999999 "$work/greatest" '99999999 open -\n99999999 99999999 standoff -\n'
+try 'the least year number, by no later objection' \
+    reads 1000.1 "$work/years" '1000.1 falls 1\n2099.9999 1000.1 felling 1\n'
+try 'the greatest year number' reads 2099.9999 "$work/years" '2099.9999 stands 0\n'
+try 'a year number of nine bytes' reads 1987.1234 "$work/years" \
+    '1987.1234 stands 2\n1000.1 1987.1234 delaying 2\n2099.9999 1000.1 felling 1\n'
+below='1987.1234 1987.14 felling 3\n1000.1 1987.1234 delaying 2\n2099.9999 1000.1 felling 1\n'
+try 'a year number, without the idle objection' \
+    reads 1987.14 "$work/years" "1987.14 falls 3\n$below"
+try 'the same digits without the point' \
+    reads 198714 "$work/years" "198714 stands 4\n1987.14 198714 delaying 4\n$below"
+try 'a year as a plain number' \
+    reads 1987 "$work/years" '1987 open -\n1987.1 1987 standoff -\n1987.10 1987.1 standoff -\n'
+try 'a serial of one digit' \
+    reads 1987.1 "$work/years" '1987.1 open -\n1987.10 1987.1 standoff -\n'
+try 'the same serial with a 0 behind it' reads 1987.10 "$work/years" '1987.10 open -\n'
 
 mkdir -p "$work/01"
 try "01's examples are written" "$built/cargo/release/outside" examples "$work/01"
@@ -111,8 +136,14 @@ for text in examples/*.txt "$work/01"/*.txt; do
 done
 
 for word in "${no_numbers[@]}"; do
-    try "no number: $(printf '%q' "$word")" asking "$word" refuses 14 0 <"$work/three"
+    try "no number: $(printf '%q' "$word")" asking "$word" refuses 14 0 <"$work/years"
 done
+try '1987.14 does not name 198714' asking 1987.14 refuses_words 14 0 'S 198714 R\nS 1987 R\n'
+try '198714 does not name 1987.14' asking 198714 refuses_words 14 0 'S 1987.14 R\n'
+try '1987 does not name 1987.14' asking 1987 refuses_words 14 0 'S 1987.14 R\n'
+try '1987.1 does not name 1987.10' asking 1987.1 refuses_words 14 0 'S 1987.10 R\n'
+try '1987.10 does not name 1987.1' asking 1987.10 refuses_words 14 0 'S 1987.1 R\n'
+try 'any year number, of no input' asking 1987.14 refuses 14 0 </dev/null
 try 'a number that is not on the register' asking 8 refuses 14 0 <"$work/three"
 try 'any number, of no input' asking 5 refuses 14 0 </dev/null
 for word in -5 - -- -h --help --a-long-option-that-no-number-can-be; do

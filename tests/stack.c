@@ -1,6 +1,6 @@
 /* How much stack the calls take. Each is made on a stack of its own that was painted before, on a
  * register that makes it go deep, and what is painted over is held against what the header
- * promises. */
+ * promises. The two calls on a number by itself are held to what it promises of lists. */
 #define _XOPEN_SOURCE 700 /* for contexts */
 
 #include "batqemulo.h"
@@ -9,12 +9,19 @@
 #include <string.h>
 #include <ucontext.h>
 
-enum { KIB = 1024, STACK = 1024 * KIB, PAINT = 0xA5, STATEMENTS = BATQEMULO_MAX_STATEMENTS };
+enum {
+    KIB = 1024,
+    STACK = 1024 * KIB,
+    PAINT = 0xA5,
+    STATEMENTS = BATQEMULO_MAX_STATEMENTS,
+    PLAIN = 64
+};
 
 static uint8_t stack[STACK];
 static ucontext_t here, there;
 
-/* A chain: each statement objects to the one before it, so that lengths go up to the limit. */
+/* A chain: each statement objects to the one before it, so that lengths go up to the limit. In the
+ * text the first have plain numbers, and all others year numbers. */
 static uint8_t marks[STATEMENTS];
 static uint32_t objectors[STATEMENTS - 1], targets[STATEMENTS - 1];
 static char text[BATQEMULO_MAX_TEXT_BYTES + 1];
@@ -37,15 +44,33 @@ static uint32_t totals[BATQEMULO_TOTALS] = {STATEMENTS, 0, 0};
 static uint8_t report[BATQEMULO_MAX_REPORT_BYTES];
 static uint32_t reported;
 
+/* Writes the number of a statement behind what the text has, and the byte that comes next. */
+static void put_number(uint32_t x, char next) {
+    char *end = text + text_len;
+    int len = x <= PLAIN ? sprintf(end, "%u%c", (unsigned)x, next)
+                         : sprintf(end, "%u.%u%c", 1000 + (unsigned)x, 1 + (unsigned)x % 9, next);
+    text_len += (size_t)len;
+}
+
+static void put(const char *bytes) {
+    text_len += (size_t)sprintf(text + text_len, "%s", bytes);
+}
+
 static void make_chain(void) {
     for (uint32_t x = 1; x < STATEMENTS; x++) {
         objectors[x - 1] = x;
         targets[x - 1] = x - 1;
     }
-    for (uint32_t x = 1; x <= STATEMENTS; x++)
-        text_len += (size_t)sprintf(text + text_len, "S\t%u\tR\n", (unsigned)x);
-    for (uint32_t x = 1; x < STATEMENTS; x++)
-        text_len += (size_t)sprintf(text + text_len, "O\t%u\t%u\n", (unsigned)x + 1, (unsigned)x);
+    for (uint32_t x = 1; x <= STATEMENTS; x++) {
+        put("S\t");
+        put_number(x, '\t');
+        put("R\n");
+    }
+    for (uint32_t x = 1; x < STATEMENTS; x++) {
+        put("O\t");
+        put_number(x + 1, '\t');
+        put_number(x, '\n');
+    }
 }
 
 static void make_old(void) {
@@ -53,7 +78,7 @@ static void make_old(void) {
     old_len = text_len;
     old_len += (size_t)sprintf(old + old_len, "\nS\t1\tR\nS\t2000\tR\nO\t2000\t1\nO\t2\t1\n");
     for (unsigned i = 0; i < BATQEMULO_MAX_OBJECTIONS; i++)
-        old_len += (size_t)sprintf(old + old_len, "O\t%u\t%u\n", i % 64 + 1, i / 64 + 1);
+        old_len += (size_t)sprintf(old + old_len, "O\t%u\t%u\n", i % PLAIN + 1, i / PLAIN + 1);
     old_len += (size_t)sprintf(old + old_len, "O\t1");
 }
 
@@ -117,6 +142,14 @@ static void sheet_update(void) {
     answer = batqemulo_sheet_update(TEXT, sheet, sizeof sheet, totals, BATQEMULO_TOTALS);
 }
 
+static void number(void) {
+    answer = batqemulo_number((const uint8_t *)"1987.1234", BATQEMULO_MAX_NUMBER_BYTES);
+}
+
+static void number_text(void) {
+    answer = batqemulo_number_text(119871234, bytes, sizeof bytes);
+}
+
 /* Stacks grow downwards: what was used reaches from its end down to the last byte without paint. */
 static size_t used(void (*call)(void)) {
     size_t clean = 0;
@@ -137,7 +170,9 @@ int main(void) {
         const char *name;
         void (*call)(void);
         size_t kib;
-    } calls[] = {{"labels of lists", pairs_labels, 32},
+    } calls[] = {{"number", number, 32},
+                 {"text of a number", number_text, 32},
+                 {"labels of lists", pairs_labels, 32},
                  {"lengths of lists", pairs_lengths, 32},
                  {"kinds of lists", pairs_kinds, 32},
                  {"exercise on lists", pairs_exercise, 32},

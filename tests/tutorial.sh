@@ -191,6 +191,7 @@ try 'another label would be noticed' notices 's/^2003\tstands/2003\topen/'
 try 'another length would be noticed' notices 's/^2002\tfalls\t3/2002\tfalls\t1/'
 try 'another kind would be noticed' notices 's/^3005\t3001\tidle/3005\t3001\tdelaying/'
 try 'a line left out would be noticed' notices '/^2005\tfalls/d'
+try 'a plain number for a year number would be noticed' notices 's/^1987\.14\tstands/1987\tstands/'
 try 'an idle objection in a reason would be noticed' \
     notices '/^\$ .\/batqemulo reason 3001/,/^```/s/^4001/3005\t3001\tidle\t-\n&/'
 try 'a felling objection that is longer than its target in a reason would be noticed' \

@@ -1,8 +1,8 @@
-/* Lengths that 32 bits do not hold: of the text, of each list and of each room, for every exported
- * function. A call that looked at the low bits only would see a good register, equal lists or a
- * room that is too short. The memory is address space that nobody has touched; only what a call
- * reads or writes takes room. With an argument, the program only says by its exit whether it can
- * have so much. */
+/* Lengths that 32 bits do not hold: of the text, of each list, of a number and of each room, for
+ * every exported function. A call that looked at the low bits only would see a good register, equal
+ * lists, a number or a room that is too short. The memory is address space that nobody has touched;
+ * only what a call reads or writes takes room. With an argument, the program only says by its exit
+ * whether it can have so much. */
 #define _DEFAULT_SOURCE /* for MAP_ANONYMOUS and MAP_NORESERVE */
 
 #include "batqemulo.h"
@@ -21,12 +21,17 @@
 #define TEXT "S\t1\tR\n"
 enum { TEXT_LEN = sizeof TEXT - 1 };
 
+/* A number by itself, of as many bytes as the text has, and its code. */
+#define NUMBER "1987.1"
+enum { CODE = 119870001 };
+
 static uint8_t *text;                /* TEXT, and zeros behind it */
+static uint8_t *written;             /* NUMBER, and zeros behind it */
 static const void *zeros;            /* marks and both lists of places */
 static uint8_t *first, *second;      /* two rooms */
 static uint32_t report_written = 77; /* as found */
 
-/* What is handed over. */
+/* What is handed over; the text's length is the number's too. */
 struct input {
     size_t text, marks, objectors, targets;
 };
@@ -37,6 +42,16 @@ static const struct input good = {TEXT_LEN, 1, 1, 1};
 #define LISTS_OF(in)                                                                               \
     zeros, (in)->marks, zeros, (in)->objectors, zeros, (in)->targets /* pairs or moves */
 #define CALL(name) static batqemulo_answer name(const struct input *in, size_t n, size_t m)
+
+CALL(number) {
+    (void)n, (void)m;
+    return batqemulo_number(written, in->text);
+}
+
+CALL(number_text) {
+    (void)in, (void)m;
+    return batqemulo_number_text(CODE, first, n);
+}
 
 CALL(listing) {
     (void)m;
@@ -123,7 +138,8 @@ struct held {
 #define NONE                                                                                       \
     { "", 0, 0 }
 
-/* A call, and what it gives for the register above: the value, and what the rooms then hold. */
+/* A call, and what it gives for the register or the number above: the value, and what the rooms
+ * then hold. */
 struct call {
     const char *name;
     int of_text;
@@ -136,6 +152,8 @@ struct call {
 #define TOTALS "\0\0\0\0\1\0\0\0\0\0\0"
 
 static const struct call calls[] = {
+    {"number", 1, number, CODE, NONE, NONE},
+    {"number_text", 1, number_text, TEXT_LEN, {NUMBER, TEXT_LEN, 1}, NONE},
     {"listing", 1, listing, sizeof LISTING - 1, {LISTING, sizeof LISTING - 1, 1}, NONE},
     {"text_labels", 1, text_labels, 1, {"\1", 1, 1}, NONE},
     {"text_lengths", 1, text_lengths, 1, {"\0", 2, 2}, NONE},
@@ -242,10 +260,12 @@ static void is_accepted(const struct call *call, size_t n, size_t m) {
 static const size_t low[] = {0, 1, TEXT_LEN, 1024, 4096, 65535};
 enum { LOWS = sizeof low / sizeof low[0] };
 
+/* A code has no length. */
 static void try_text(const struct call *call, size_t n, size_t m) {
-    for (size_t i = 0; i < LOWS; i++) {
+    for (size_t i = 0; i < LOWS && call->ask != number_text; i++) {
         struct input in = {WIDE + low[i], 0, 0, 0};
-        is_refused(call, &in, n, m, BATQEMULO_TEXT_TOO_LONG);
+        is_refused(call, &in, n, m,
+                   call->ask == number ? BATQEMULO_LINE_SPOILED : BATQEMULO_TEXT_TOO_LONG);
     }
 }
 
@@ -289,15 +309,17 @@ static void *address_space(size_t size) {
 int main(int argc, char **argv) {
     (void)argv;
     text = address_space(MOST);
+    written = address_space(MOST);
     zeros = address_space(SPAN);
     first = address_space(SPAN);
     second = address_space(SPAN);
-    int can = text && zeros && first && second;
+    int can = text && written && zeros && first && second;
     if (argc > 1)
         return can ? 0 : 1;
     if (!can)
         return puts("0 passed, 1 failed"), 1;
     memcpy(text, TEXT, TEXT_LEN);
+    memcpy(written, NUMBER, TEXT_LEN);
 
     for (size_t i = 0; i < sizeof calls / sizeof calls[0]; i++) {
         size_t n = entries(&calls[i].first), m = entries(&calls[i].second);

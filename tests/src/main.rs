@@ -19,8 +19,9 @@ mod suites;
 use inputs::examples::EXAMPLES;
 use inputs::text::Text;
 use second::expected::{Expected, Question};
+use second::listing;
 use second::mend::Mending;
-use second::{listing, text};
+use second::number::Number;
 use std::io::{Error, Read, Write};
 use std::path::Path;
 use std::process::ExitCode;
@@ -54,7 +55,7 @@ fn main() -> ExitCode {
 
 /// The question for a reason. A word that is no number asks for 0, which is on no register either.
 fn reason_for(word: &str) -> Question {
-    let statement = text::number(word.as_bytes()).unwrap_or(0);
+    let statement = Number::read(word.as_bytes()).map_or(0, Number::code);
     Question::Reason { statement }
 }
 

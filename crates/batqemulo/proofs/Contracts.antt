@@ -23,7 +23,11 @@ use Rattle.promises.proofs.UniqueListing.{unique-text-listing}
 use Rattle.promises.proofs.UniqueReason.{unique-text-reason}
 use Rattle.promises.proofs.UniqueSheet.{unique-text-sheet, unique-text-sheet-update}
 use Rattle.promises.proofs.UniqueMend.{unique-text-mend}
+use Rattle.promises.specs.NumberCalls.{NumberCode, NumberText}
+use Rattle.promises.proofs.UniqueNumber.{unique-number-code, unique-number-text}
 use Rattle.promises.proofs.UniqueInC.{in-c-unique}
+use Rattle.call_number.proofs.number_code.Reads as number-code
+use Rattle.call_number.proofs.number_text.Reads as number-text
 use Rattle.call_labels_lists.proofs.pairs_labels.Reads as pairs-labels
 use Rattle.call_labels_lists.proofs.pairs_lengths.Reads as pairs-lengths
 use Rattle.call_labels_lists.proofs.moves_labels.Reads as moves-labels
@@ -56,6 +60,8 @@ use Rattle.batqemulo.proofs.c.batqemulo_reason.Reads as c-reason
 use Rattle.batqemulo.proofs.c.batqemulo_sheet.Reads as c-sheet
 use Rattle.batqemulo.proofs.c.batqemulo_sheet_update.Reads as c-sheet-update
 use Rattle.batqemulo.proofs.c.batqemulo_mend.Reads as c-mend
+use Rattle.batqemulo.proofs.c.batqemulo_number.Reads as c-number
+use Rattle.batqemulo.proofs.c.batqemulo_number_text.Reads as c-number-text
 
 -- What is asked of a caller is nothing; and what the caller learns is the promise, of what was passed, of the answer and of the
 -- rooms at exit. It leaves one answer and one content of the rooms.
@@ -194,3 +200,13 @@ pub contract-text-mend : InRattleAndC text-mend.Asked text-mend.Learnt c-mend.As
 contract-text-mend =
     in-both _ _ (λ κs (text, (room, (report, («report_written», _)))).
     unique-text-mend (now text) (now room, now report, now «report_written»))
+
+pub contract-number-code : InRattleAndC number-code.Asked number-code.Learnt c-number.Asked c-number.Learnt
+    (λ κs (written, _) a after. NumberCode (now written) a)
+    (λ κs _. tt {0})
+contract-number-code = in-both _ _ (λ κs (written, _) a a′ after after′ p q. (unique-number-code (now written) a a′ p q, refl))
+
+pub contract-number-text : InRattleAndC number-text.Asked number-text.Learnt c-number-text.Asked c-number-text.Learnt
+    (λ κs (number, (room, _)). NumberText number (now room))
+    (λ κs (_, (room, _)). now room)
+contract-number-text = in-both _ _ (λ κs (number, (room, _)). unique-number-text number (now room))

@@ -10,6 +10,23 @@ ghost use Rattle.promises.specs.ListingCalls.{TextListing};
 ghost use Rattle.promises.specs.ReasonCalls.{TextReason};
 ghost use Rattle.promises.specs.SheetCalls.{TextSheet, TextSheetUpdate};
 ghost use Rattle.promises.specs.MendCalls.{TextMend};
+ghost use Rattle.promises.specs.NumberCalls.{NumberCode, NumberText};
+
+// The code of a number.
+#[no_mangle]
+pub extern "C" fn batqemulo_number(written: &[u8]) -> CAnswer
+    ensures { λ c. ⌜ InC (NumberCode (now (written .entry))) c ⌝ }
+{
+    in_c(call_number::number_code(written))
+}
+
+// How the number of a code is written.
+#[no_mangle]
+pub extern "C" fn batqemulo_number_text(number: u32, room: &mut [u8]) -> CAnswer
+    ensures { λ c. ⌜ InC (λ a. NumberText number (now (room .entry)) a (now (room .exit))) c ⌝ }
+{
+    in_c(call_number::number_text(number, room))
+}
 
 // Labels of pairs.
 #[no_mangle]

@@ -17,6 +17,8 @@ pub use call_labels_text::text_labels;
 pub use call_labels_text::text_lengths;
 pub use call_listing::text_listing;
 pub use call_mend::text_mend;
+pub use call_number::number_code;
+pub use call_number::number_text;
 pub use call_reason::text_reason;
 pub use call_sheet::text_sheet;
 pub use call_sheet::text_sheet_update;

@@ -16,7 +16,7 @@ use Rattle.game.proofs.Reason.{reaching, belonging, counts}
 use Rattle.register.specs.Texts.{decimal, decimalIn}
 use Rattle.register.specs.Number.{numberBytes}
 use Rattle.register.proofs.Decimals.{spell}
-use Rattle.register.proofs.Number.{numberTest}
+use Rattle.register.proofs.Number.{numberTest, spellNumber}
 use Rattle.register.proofs.Guess.{field, behind, guessMark, guessFields, guessLine}
 use Rattle.register.specs.Register.{Register, book, bytes, placeOf}
 use Rattle.listing.specs.Rows.{statementRow, numbersRow, objectionRow}
@@ -119,21 +119,24 @@ holds = pass-is Says (λ r. testOf r .passes) (λ r t. testOf r .is t)
 
 -- Every example that 01 marks P holds.
 pub table-holds : Every Says table
-unfolding table inParts ascii field behind guessMark guessFields guessLine spell behindLine guessFirst lineCount registerOf
+unfolding table inParts ascii field behind guessMark guessFields guessLine spell
+    spellNumber behindLine guessFirst lineCount registerOf
     same issued numbered differ known distinct ordered accepted kept added finishing testOf pass any all bookOf standsWithin
     fallsWithin verdict verdictBy
     numberTest numberBytes decimal decimalIn bytes placeOf numbersRow statementRow statementRows objectionRow objectionRows
 table-holds = holds table tt
 
 pub reasons-hold : Every Says reasons
-unfolding reasons inParts ascii field behind guessMark guessFields guessLine spell behindLine guessFirst lineCount registerOf
+unfolding reasons inParts ascii field behind guessMark guessFields guessLine spell
+    spellNumber behindLine guessFirst lineCount registerOf
     same issued numbered differ known distinct ordered accepted inside testOf pass any all bookOf standsWithin fallsWithin
     verdict verdictBy
     numberTest numberBytes decimal decimalIn bytes placeOf statementRow objectionRow objectionRows keep counts belonging reaching
 reasons-hold = holds reasons tt
 
 pub sheets-hold : Every Says sheets
-unfolding sheets ascii field behind guessMark guessFields guessLine spell behindLine guessFirst lineCount registerOf
+unfolding sheets ascii field behind guessMark guessFields guessLine spell
+    spellNumber behindLine guessFirst lineCount registerOf
     same issued numbered differ known distinct ordered accepted
     coded packed codeAt total count testOf pass any all bookOf standsWithin fallsWithin verdict verdictBy
     numberTest numberBytes decimal decimalIn bytes placeOf

@@ -17,7 +17,7 @@ use Rattle.register.specs.Texts.{decimal, decimalIn}
 use Rattle.register.specs.Number.{numberBytes}
 use Rattle.register.specs.Register.{bytes, placeOf}
 use Rattle.register.proofs.Decimals.{spell}
-use Rattle.register.proofs.Number.{numberTest}
+use Rattle.register.proofs.Number.{numberTest, spellNumber}
 use Rattle.register.proofs.Guess.{field, behind, guessMark, guessFields, guessLine}
 use Rattle.answer.specs.declared.Refusal.{Refusal}
 use Rattle.answer.specs.declared.Answer.{Answer}
@@ -78,7 +78,8 @@ pub record Texts : Type 0 where
   pub chain-lengths : TextLengths chain-bytes nines (Given 4) (3 ∷ 2 ∷ 1 ∷ 0 ∷ [])
 
 texts : Texts
-unfolding ascii field behind guessMark guessFields guessLine spell behindLine guessFirst lineCount registerOf same issued numbered
+unfolding ascii field behind guessMark guessFields guessLine spell
+    spellNumber behindLine guessFirst lineCount registerOf same issued numbered
     differ known distinct ordered accepted inside coded packed codeAt total count any all bookOf standsWithin fallsWithin
     verdict verdictBy numberTest numberBytes decimal decimalIn bytes placeOf numbersRow statementRow statementRows objectionRows
     keep counts belonging reaching

@@ -6,6 +6,8 @@ pub mod Limits
 pub mod ListsTable
 pub mod MendLimits
 pub mod MendTable
+pub mod Named
+pub mod NumberTable
 pub mod Printed
 pub mod Promise
 pub mod RestoredExample

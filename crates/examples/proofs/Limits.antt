@@ -9,7 +9,7 @@ use lib.Dec.{lit≤}
 use lib.ListN.{length, getD, replicate, length-replicate, getD-replicate, length-map, length-append, List·getD-map}
 use Rattle.game.proofs.UpTo.{upTo, length-upTo, getD-upTo}
 use Rattle.register.specs.Texts.{decimal, decimalIn, rowsTo}
-use Rattle.register.specs.Number.{IsNumber, numberBytes}
+use Rattle.register.specs.Number.{numberBytes}
 use Rattle.register.specs.Lines.{lineBytes, markByte, WellFormed, BeginsWith}
 use Rattle.register.specs.Register.{Register, Valid, Issued as OnRegister, numbers, objectorNumbers, targetNumbers, lines, bytes}
 use Rattle.register.specs.Register.{written, bare}
@@ -20,7 +20,7 @@ use Rattle.register.specs.declared.ObjectionLine.{ObjectionLine}
 use Rattle.register.specs.declared.Line.{Line}
 use Rattle.register.specs.declared.Line.the-variants.{Statement, Objection}
 use Rattle.register.specs.declared.TextFault.the-variants.{TooLong, Spoiled, Statements, Objections}
-use Rattle.register.proofs.Number.{number-small}
+use Rattle.register.proofs.Number.{number-small, number-short, plain-number, plain-bytes}
 use Rattle.register.proofs.Digits.{few-digits}
 use Rattle.register.proofs.TextRows.{row-first, rows-within}
 use Rattle.register.proofs.OneMore.{bytes-append, empty-valid}
@@ -91,13 +91,12 @@ module _ (n m : ℕ) where
 
   module _ (few : n ≤ 1024) (few-more : m ≤ 4096) (among : (i : ℕ) → i < m → (i / 65 < n) × (i % 65 < n)) where
     pub register-valid : Valid R
-    unfolding IsNumber
     register-valid = record {
       few-statements = omega (arith, count-statements);
       few-objections = omega (arith, count-objections);
       numbered =
           λ i h. let e : getD (numbers R) i 0 ≡ suc i = number-at i (omega (arith, h, count-numbers)) in
-          (omega (arith, e), omega (arith, e, h, count-numbers));
+          plain-number (getD (numbers R) i 0) (omega (arith, e)) (omega (arith, e, h, count-numbers));
       once =
           λ i j h l e. let p : getD (numbers R) i 0 ≡ suc i = number-at i (omega (arith, h, l, count-numbers)) in
           let q : getD (numbers R) j 0 ≡ suc j = number-at j (omega (arith, l, count-numbers)) in
@@ -116,11 +115,10 @@ module _ (n m : ℕ) where
     }
 
     -- how long the text is
-    statement-short : (i : ℕ) → length (lineBytes (Statement (statementAt i))) ≤ 15
+    statement-short : (i : ℕ) → length (lineBytes (Statement (statementAt i))) ≤ 20
     statement-short i = omega (arith, length-append (numberBytes (suc i)) (9 ∷ 82 ∷ 10 ∷ []), number-small (suc i))
 
     objection-short : (i : ℕ) → i < m → length (lineBytes (Objection (objectionAt i))) ≤ 8
-    unfolding numberBytes
     objection-short i h =
         let y : suc (i / 65) < 100 = omega (arith, h, few-more) in
         let x : suc (i % 65) < 100 = omega arith in
@@ -128,17 +126,19 @@ module _ (n m : ℕ) where
           arith,
           length-append (numberBytes (suc (i / 65))) (9 ∷ (numberBytes (suc (i % 65)) ++ (10 ∷ []))),
           length-append (numberBytes (suc (i % 65))) (10 ∷ []),
+          ap length (plain-bytes (suc (i / 65)) (omega arith) (omega arith)),
+          ap length (plain-bytes (suc (i % 65)) (omega arith) (omega arith)),
           few-digits 1 (suc (i / 65)) (omega arith) y,
           few-digits 1 (suc (i % 65)) (omega arith) x,
         )
 
-    text-short : length (textOf n m) ≤ 15 * n + 8 * m
+    text-short : length (textOf n m) ≤ 20 * n + 8 * m
     text-short =
         omega (
           arith,
           length-append (rowsTo n (λ i. lineBytes (Statement (statementAt i))))
               (rowsTo m (λ i. lineBytes (Objection (objectionAt i)))),
-          rows-within (λ i. lineBytes (Statement (statementAt i))) 15 n (λ i h. statement-short i),
+          rows-within (λ i. lineBytes (Statement (statementAt i))) 20 n (λ i h. statement-short i),
           rows-within (λ i. lineBytes (Objection (objectionAt i))) 8 m objection-short,
         )
 
@@ -171,14 +171,14 @@ module _ (n m : ℕ) where
 
 pub line-short : (l : Line) → WellFormed l → length (lineBytes l) ≤ 32
 line-short (Statement st) w =
-    omega (arith, length-append (numberBytes (st .number)) (9 ∷ markByte (st .mark) ∷ 10 ∷ []), number-small (st .number))
+    omega (arith, length-append (numberBytes (st .number)) (9 ∷ markByte (st .mark) ∷ 10 ∷ []), number-short (st .number) w)
 line-short (Objection o) w =
     omega (
       arith,
       length-append (numberBytes (o .objector)) (9 ∷ (numberBytes (o .target) ++ (10 ∷ []))),
       length-append (numberBytes (o .target)) (10 ∷ []),
-      number-small (o .objector),
-      number-small (o .target),
+      number-short (o .objector) (w .0),
+      number-short (o .target) (w .1),
     )
 
 next : (l : Line) → WellFormed l → BeginsWith l (lineBytes l)

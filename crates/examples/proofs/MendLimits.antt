@@ -8,7 +8,8 @@ use native.Mathlib.Omega.{arith}
 use borrow.Author.Tests.{eq-eqb, ne-eqb}
 use Rattle.game.proofs.UpTo.{upTo, length-upTo}
 use Rattle.register.specs.Texts.{decimal, decimalIn, rowsTo}
-use Rattle.register.specs.Number.{IsNumber, numberBytes}
+use Rattle.register.specs.Number.{numberBytes}
+use Rattle.register.proofs.Number.{plain-number}
 use Rattle.register.specs.Lines.{lineBytes, WellFormed}
 use Rattle.register.specs.declared.StatementLine.{StatementLine}
 use Rattle.register.specs.declared.ObjectionLine.{ObjectionLine}
@@ -91,9 +92,10 @@ module _ (n : ℕ) (full : n ≡ 4096) where
   past-objections : Mends (textOf 65 n ++ ascii "O\t64\t2\n") (with-report
       (rowsTo 65 (λ i. lineBytes (Statement (markedAt i))) ++ rowsTo n (λ i. lineBytes (Objection (objectionAt i))))
       (ascii "4162\tdropped\t9\n"))
-  unfolding ascii reportRow decimal decimalIn numberBytes IsNumber
+  unfolding ascii reportRow decimal decimalIn numberBytes
   past-objections =
-      let w : WellFormed (Objection next) = ((omega arith, omega arith), (omega arith, omega arith)) in
+      let w : WellFormed (Objection next) =
+      (plain-number 64 (omega arith) (omega arith), plain-number 2 (omega arith) (omega arith)) in
       let (m, r) = objection-past (R 65 n) next in-order (count-objections 65 n ∙ full) (
         on-register 65 n 63 (omega arith),
         on-register 65 n 1 (omega arith),

@@ -15,7 +15,7 @@ use Rattle.register.specs.Number.{numberBytes}
 use Rattle.register.specs.Lines.{lineBytes}
 use Rattle.register.specs.Register.{bytes, written}
 use Rattle.register.proofs.Decimals.{spell}
-use Rattle.register.proofs.Number.{numberTest}
+use Rattle.register.proofs.Number.{numberTest, spellNumber}
 use Rattle.register.proofs.Guess.{field, behind, guessMark, guessFields, guessLine, ahead, formedTest, beginsTest, begins-tested}
 use Rattle.register.proofs.Guess.{spoiledTest, spoiled-tested}
 use Rattle.mend.specs.TextLines.{TextLine, good, spoiled, unended, Unbroken, LinesOf}
@@ -137,7 +137,8 @@ passes-is (mends text printed report) t =
 
 -- Every row holds.
 pub mendings-hold : Every Mending mendings
-unfolding mendings passes pass ascii inParts field behind guessMark guessFields guessLine spell ahead formedTest beginsTest
+unfolding mendings passes pass ascii inParts field behind guessMark guessFields guessLine spell
+    spellNumber ahead formedTest beginsTest
     spoiledTest behindLine lineCount unendedTest same endedTest textLines linesIn linesTest mendTest
     numberTest numberBytes decimal decimalIn bytes any settleStatement settleObjection withStatements withObjections fatesFrom
     rowsTo reportRow reportOf

@@ -9,12 +9,12 @@ use Rattle.game.specs.Rules.{standsWithin, fallsWithin}
 use Rattle.game.proofs.Verdict.{verdict, verdictBy}
 use Rattle.game.proofs.Reason.{reaching, belonging, counts}
 use Rattle.register.specs.Texts.{decimal, decimalIn}
-use Rattle.register.specs.Number.{numberBytes, IsNumber}
+use Rattle.register.specs.Number.{numberBytes}
 use Rattle.register.specs.Register.{Register, bytes, placeOf, Issued}
 use Rattle.register.specs.Reads.{Accepts}
 use Rattle.register.specs.declared.TextFault.{TextFault}
 use Rattle.register.proofs.Decimals.{spell}
-use Rattle.register.proofs.Number.{numberTest, number-tested, number-passes, number-says}
+use Rattle.register.proofs.Number.{numberTest, spellNumber}
 use Rattle.register.proofs.Guess.{field, behind, guessMark, guessFields, guessLine, ahead, formedTest, beginsTest, spoiledTest}
 use Rattle.answer.specs.Refusals.{refusalNumber, refusalPlace}
 use Rattle.answer.specs.declared.Refusal.{Refusal}
@@ -23,7 +23,8 @@ use Rattle.listing.specs.Rows.{statementRow, numbersRow, objectionRow, refusedR
 use Rattle.listing.specs.Listing.{objectionRows, IsListing, statementRows}
 use Rattle.reason.specs.Alone.{keep}
 use Rattle.reason.specs.Reasons.{IsReason}
-use Rattle.promises.specs.Programs.{Prints, PrintsRefusal, PrintsFault, PrintsReason, Names, NoneNamed, ReasonNamed}
+use Rattle.promises.specs.Programs.{Prints, PrintsRefusal, PrintsFault, PrintsReason, NoneNamed, ReasonNamed}
+use Rattle.promises.specs.NumberCalls.{Names}
 use Rattle.examples.specs.Table.{ascii, Every}
 use Rattle.examples.specs.Printed.{PrintedRow, list, reason, Printing, printed}
 use Rattle.examples.proofs.Rows.{pass, pass-is}
@@ -31,6 +32,7 @@ use Rattle.examples.proofs.Text.{behindLine, restFrom, guessFirst, line
 use Rattle.examples.proofs.Text.{known, distinct, ordered, accepted, unendedTest}
 use Rattle.examples.proofs.Test.{Test, Decision, bothOf, under, eitherOf, so, bothDecided, decided, refuted, alike}
 use Rattle.examples.proofs.Fault.{textFault, faultOf, textAccepted, onRegister, placeIn, placedThere, counted}
+use Rattle.examples.proofs.Named.{said, names, says}
 use Rattle.examples.proofs.Told.{listingOf, listing-is, reasonOf, reason-is, inside}
 
 -- the line of a refusal
@@ -54,24 +56,15 @@ module _ (s line : List ℕ) where
       eitherOf (so (λ (a, e). (R, a, subst (IsListing R) (sym e) (listing-is R (a .valid))))
       (bothOf (textAccepted s) (decided (alike line (listingOf R))))) printsFault
 
-  -- what `reason` prints: the argument names the number that its digits say, and no other
+  -- what `reason` prints: the argument names the number that its bytes say, and no other
   module _ (argument : List ℕ) where
     abbrev pub asked : ℕ
-    asked = spell 0 argument
-
-    abbrev pub isNumber : (n : ℕ) → Decision (IsNumber n)
-    isNumber n = record { passes = numberTest n; is = number-tested n; must = number-passes n }
-
-    abbrev pub names : Decision (Names argument asked)
-    names = bothDecided (isNumber asked) (alike argument (numberBytes asked))
-
-    pub says : (n : ℕ) → Names argument n → n ≡ asked
-    says n (h, e) = sym (number-says n h) ∙ ap (spell 0) (sym e)
+    asked = said argument
 
     abbrev pub noneNamed : Test (NoneNamed R argument)
     noneNamed =
-        so (λ no n named there. no (subst (λ m. Names argument m × Issued R m) (says n named) (named, there)))
-        (refuted (bothDecided names (onRegister R asked)))
+        so (λ no n named there. no (subst (λ m. Names argument m × Issued R m) (says argument n named) (named, there)))
+        (refuted (bothDecided (names argument) (onRegister R asked)))
 
     abbrev pub place : ℕ
     place = placeIn R asked
@@ -85,7 +78,7 @@ module _ (s line : List ℕ) where
           p,
           subst (IsReason R place) (sym e) (reason-is R (a .valid) place (counted R asked place p)),
         ))
-        (bothOf (decided names) (bothOf (placedThere R asked) (decided (alike line (reasonOf R place)))))
+        (bothOf (decided (names argument)) (bothOf (placedThere R asked) (decided (alike line (reasonOf R place)))))
 
     abbrev pub reasonOrNone : Test (Accepts s R → ReasonNamed R argument line ⊎ (NoneNamed R argument × PrintsRefusal Asked line))
     reasonOrNone =
@@ -102,7 +95,8 @@ testOf (reason text argument line) = printsReason (ascii text) (ascii line) (asc
 
 -- Every row holds.
 pub printed-holds : Every Printing printed
-unfolding printed testOf pass ascii field behind guessMark guessFields guessLine spell ahead formedTest beginsTest spoiledTest
+unfolding printed testOf pass ascii field behind guessMark guessFields guessLine spell
+    spellNumber ahead formedTest beginsTest spoiledTest
     behindLine restFrom guessFirst lineCount registerOf same issued numbered differ known distinct ordered accepted unendedTest
     faultOf inside any all bookOf standsWithin fallsWithin verdict verdictBy
     numberTest numberBytes decimal decimalIn bytes placeOf numbersRow statementRow statementRows objectionRow objectionRows keep

@@ -18,7 +18,7 @@ use Rattle.register.specs.Number.{numberBytes}
 use Rattle.register.specs.Register.{Register, book, bytes, placeOf, Places, Issued, written}
 use Rattle.register.specs.Reads.{Accepts}
 use Rattle.register.proofs.Decimals.{spell}
-use Rattle.register.proofs.Number.{numberTest}
+use Rattle.register.proofs.Number.{numberTest, spellNumber}
 use Rattle.register.proofs.Guess.{field, behind, guessMark, guessFields, guessLine, ahead, formedTest, beginsTest, spoiledTest}
 use Rattle.answer.specs.declared.Refusal.{Refusal}
 use Rattle.answer.specs.declared.Refusal.the-variants as refusal
@@ -274,7 +274,7 @@ testOf (update text rooms c after) =
 -- Every row holds.
 pub text-table-holds : Every OnTextSays textTable
 unfolding textTable testOf pass refusalOf faultOf
-    ascii field behind guessMark guessFields guessLine spell ahead formedTest beginsTest spoiledTest
+    ascii field behind guessMark guessFields guessLine spell spellNumber ahead formedTest beginsTest spoiledTest
     behindLine restFrom guessFirst lineCount registerOf same issued numbered differ known distinct ordered accepted
     unendedTest inside coded packed codeAt total count
     firstFrom onwardTest sameVerdict nextOf nextTest lineOf lineTest exerciseOf

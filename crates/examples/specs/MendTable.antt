@@ -31,6 +31,9 @@ mendings =
     ∷ mends "S\t1\tR\nO\t9\t1" "S\t1\tR\n" "2\tdropped\t2\n"
     ∷ mends "\nS\t1\tR\n" "S\t1\tR\n" "1\tdropped\t3\n"
     ∷ mends "S\t1\tR\nS\t1\tr\nO\t1\t1\t1\nS\t2\tR\n\n" "S\t1\tR\nS\t2\tR\n" "2\tdropped\t3\n3\tdropped\t3\n5\tdropped\t3\n"
+    -- a year number stays, where it is one
+    ∷ mends "S\t1987.14\tR\nS\t1987.014\tR\nO\t1987.14\t1987.14\nS\t1987.14\tR\n" "S\t1987.14\tU\nO\t1987.14\t1987.14\n"
+    "2\tdropped\t3\n4\tdropped\t5\n"
     -- 4: "A late statement (01's 4) moves behind the others", also behind an objection that goes; "lines that stay keep their
     -- order"
     ∷ mends "S\t1\tR\nO\t1\t1\nS\t2\tR\n" "S\t1\tR\nS\t2\tR\nO\t1\t1\n" "3\tmoved\t4\n"

@@ -74,6 +74,9 @@ textTable =
     ∷ argument four 2 (7 ∷ 7 ∷ 7 ∷ 7 ∷ []) (gives 3) (2 ∷ 3 ∷ 4 ∷ 7 ∷ [])
     ∷ argument game 101 (7 ∷ 7 ∷ []) (gives 1) (101 ∷ 7 ∷ [])
     ∷ argument "S\t9\tR\nS\t3\tR\nS\t1\tR\nO\t1\t9\nO\t3\t9\n" 9 (7 ∷ 7 ∷ []) (gives 2) (9 ∷ 3 ∷ [])
+    -- a year number is asked for, and told, by its code; a code that is nobody's is on no line
+    ∷ argument "S\t1987.14\tR\nS\t7\tR\nO\t7\t1987.14\n" 119870014 (7 ∷ 7 ∷ []) (gives 2) (119870014 ∷ 7 ∷ [])
+    ∷ argument "S\t1987.14\tR\n" 119870000 (7 ∷ []) (refuses 14 0) (7 ∷ [])
     -- "then 14, 15, 10"
     ∷ argument four 5 [] (refuses 14 0) []
     ∷ argument four 1 (7 ∷ 7 ∷ 7 ∷ []) (refuses 10 0) (7 ∷ 7 ∷ 7 ∷ [])

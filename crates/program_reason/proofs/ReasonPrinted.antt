@@ -1,7 +1,7 @@
 -- From what the library promises of a reason to what the program prints.
 use mathlib.Core.List.{List}
 use mathlib.Core.Logic.{⊎-elim, inl, inr}
-use mathlib.Core.Path.{subst, ap, _∙_}
+use mathlib.Core.Path.{subst, ap, refl, sym, _∙_}
 use Prim.Native.Nat.{ℕ, _≤_, _<_}
 use native.Mathlib.Omega.{arith}
 use lib.ListN.{getD, length, take}
@@ -12,16 +12,27 @@ use Rattle.register.specs.Reads.{Accepts}
 use Rattle.register.proofs.Number.{number-above}
 use Rattle.listing.specs.Rows.{refusedRow}
 use Rattle.answer.specs.declared.Answer.{Answer}
+use Rattle.answer.specs.declared.Answer.the-variants.{Refused, Given}
 use Rattle.answer.specs.Answer.{RefusedOn, GivenOn}
-use Rattle.register_number.specs.NumberReading.{NumberOf}
+use Rattle.program_reason.specs.AskedNumber.{NumberOf}
 use Rattle.promises.specs.OnText.{TextRefused}
 use Rattle.reason.specs.Reasons.{IsReason}
 use Rattle.promises.specs.ReasonCalls.{ReasonRefused, TextReason, ReasonIn}
 use Rattle.reason.proofs.Reasons.{reason-short}
 use Rattle.program_stream.specs.PutAnswer.{PutOf}
 use Rattle.program_stream.proofs.PutAnswer.{put-shown}
-use Rattle.promises.specs.Programs.{Names, NoneNamed, PrintsRefusal, PrintsReason}
-use Rattle.promises.proofs.Programs.{names-once, fault-printed}
+use Rattle.promises.specs.Programs.{NoneNamed, PrintsRefusal, PrintsReason}
+use Rattle.promises.specs.NumberCalls.{Names, NumberCode}
+use Rattle.promises.proofs.OnNumber.{names-once}
+use Rattle.promises.proofs.Programs.{fault-printed}
+
+-- the code of the argument, or that it has none
+pub code-asked : (argument : List ℕ) (number : ℕ) → NumberCode argument (Given number) → NumberOf argument number
+code-asked argument number (n, p, e) = inl (subst (Names argument) (sym e) p)
+
+pub none-asked : (argument : List ℕ) (r : Refusal) → NumberCode argument (Refused r) → NumberOf argument 0
+none-asked argument r (inl p, q) = inr (refl, p .0)
+none-asked argument r (inr p, q) = absurd (p .2)
 
 module _ (s argument room : List ℕ) (long : 131072 ≤ length room) (number : ℕ) (asked : NumberOf argument number) where
   -- the number of a statement is not 0, so it is the argument's

@@ -1,11 +1,25 @@
 // Reads a register text from standard input and prints the reason of the statement whose number is the program's one
 // argument, or the one line of a refusal. What is printed is settled by `output`, hence by the call for a reason, on which alone
 // it stands; the rest only moves bytes.
+use answer::Answer;
 use libc::STDOUT_FILENO;
 use program_stream::Input;
-ghost use Prim.Native.Nat.{_≤_};
+ghost use Prim.Native.Nat.{_≤_, ℕ};
 ghost use lib.ListN.{length, take};
+ghost use Rattle.register.specs.Number.{IsNumber, numberBytes};
 ghost use Rattle.promises.specs.Programs.{PrintsReason};
+ghost use Rattle.program_reason.specs.AskedNumber.{NumberOf};
+
+// The number that the argument is, by its code, or 0, which is nobody's.
+fn number_of(argument: &[u8]) -> u32
+    ensures { λ r. ⌜ NumberOf (now (argument .entry)) r ⌝ }
+{
+    let answer = call_number::number_code(argument);
+    match answer {
+        Answer::Given(number) => number,
+        Answer::Refused(_) => 0,
+    }
+}
 
 // Puts what is to be printed at the start of the room, and answers how many bytes it has.
 fn output(text: &[u8], argument: &[u8], room: &mut [u8]) -> usize
@@ -13,7 +27,7 @@ fn output(text: &[u8], argument: &[u8], room: &mut [u8]) -> usize
     ensures { λ r. ⌜ (r ≤ length (now (room .exit))) × PrintsReason (now (text .entry)) (now (argument .entry))
         (take r (now (room .exit))) ⌝ }
 {
-    let number = register_number::number_of(argument);
+    let number = number_of(argument);
     let answer = call_reason::text_reason(text, number, room);
     program_stream::put_answer(answer, room)
 }
@@ -36,10 +50,17 @@ fn answer_for(argument: &[u8]) {
     print_reason(&text[..n], argument);
 }
 
-// The buffer is longer than any number. An argument that does not fit it is read as an empty one: neither is a number. Its first
-// bytes are there all the same, so that a long option is seen.
+// 16 zeros, room for any number as it is written.
+fn argument_room() -> [u8; 16]
+    ensures { λ r. ⌜ ((number : ℕ) → IsNumber number → length (numberBytes number) ≤ length r) ⌝ }
+{
+    [0; 16]
+}
+
+// An argument that does not fit its room is read as an empty one: neither is a number. Its first bytes are there all the same, so
+// that a long option is seen.
 fn main() {
-    let mut argument = [0u8; 16];
+    let mut argument = argument_room();
     let n = os::arg(1, &mut argument);
     if os::arg_count() != 2 || program_stream::is_option(&argument) {
         program_stream::print_usage(b" NUMBER <register\n");

@@ -51,6 +51,8 @@ use Rattle.promises.specs.MendCalls.{Lent, Lined, LinesRefused, MendedIn
 use Rattle.promises.proofs.CallsSay.{few}
 use Rattle.promises.proofs.OnLists.{lists-settled}
 use Rattle.promises.proofs.OnText.{text-settled}
+use Rattle.promises.specs.NumberCalls.{NumberCode, NumberText}
+use Rattle.promises.proofs.OnNumber.{written-settled, code-settled}
 
 -- something is refused, or something is given
 abbrev Outcome : {Rooms : Type 0} → (Refusal → Type 0) → (ℕ → Rooms → Type 0) → Type 0
@@ -310,3 +312,18 @@ module _ (s : List ℕ) where
           let (n, text, w) = written-there (written (mended ls)) (lent .0) (omega arith) in
           let (m, report, v) = written-there (reportOf (fates ls)) (lent .1) (omega arith) in
           inr (n, (text, report, m), (w, v))
+
+-- the calls on one number
+pub number-code-there : (written : List ℕ) → (a : Answer) × (after : Unit {0}) × NumberCode written a
+number-code-there written =
+    on-there {Rooms = Unit {0}} (λ number r. ⊥) (λ number n after. n ≡ number) tt (written-settled written .either)
+    (λ number p. inr (number, tt, refl))
+
+pub number-text-there : (number : ℕ) (room : List ℕ) → (a : Answer) × (after : List ℕ) × NumberText number room a after
+number-text-there number room =
+    on-there (λ l. Short (length room < length l)) (λ l. Written l room) room (code-settled number .either)
+    (λ l p. go l (decLt (length room) (length l)))
+  where
+    go : (l : List ℕ) → Dec (length room < length l) → Outcome (Short (length room < length l)) (Written l room)
+    go l (yes h) = inl (Room, (h, refl))
+    go l (no h) = inr (written-there l room (omega arith))

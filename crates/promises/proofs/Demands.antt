@@ -13,12 +13,13 @@ use Rattle.game.proofs.Argument.{line-unique}
 use Rattle.lists.specs.Refuses.{Lists}
 use Rattle.register.specs.Register.{Register, Places, Issued, book}
 use Rattle.register.specs.Reads.{Accepts}
+use Rattle.register.specs.Number.{numberBytes}
 use Rattle.register.proofs.Order.{place-once}
 use Rattle.listing.proofs.Listing.{listing-once}
 use Rattle.reason.specs.Reasons.{IsReason}
 use Rattle.reason.proofs.Reasons.{reason-once}
 use Rattle.answer.specs.declared.Refusal.{Refusal}
-use Rattle.answer.specs.Answer.{Promised, RefusedOn, GivenOn, Short, Asks, Written}
+use Rattle.answer.specs.Answer.{Promised, RefusedOn, GivenOn, OnInput, Short, Asks, Written}
 use Rattle.answer.specs.declared.Answer.{Answer}
 use Rattle.answer.specs.declared.Answer.the-variants.{Refused, Given}
 use Rattle.answer.proofs.Promises.{asks-none}
@@ -52,6 +53,11 @@ use Rattle.promises.proofs.UniqueAskedText.{unique-text-exercise}
 use Rattle.promises.proofs.UniqueListing.{unique-text-listing}
 use Rattle.promises.proofs.UniqueSheet.{unique-text-sheet, unique-text-sheet-update}
 use Rattle.promises.proofs.UniqueMend.{unique-text-mend, lines-apart}
+use Rattle.promises.specs.NumberCalls.{Names, NumberCode, NumberText, NamesNone, IsNobodys}
+use Rattle.promises.specs.Fine.{NumberCodeFine, NumberTextFine}
+use Rattle.promises.proofs.OnNumber.{written-apart, code-apart}
+use Rattle.promises.proofs.Answerable.{number-code-there, number-text-there}
+use Rattle.promises.proofs.UniqueNumber.{unique-number-code, unique-number-text}
 
 -- What a call does with its input, from its promise's being unique: generic over promises of the form that all calls have.
 module _ {Rooms : Type 0} (refuses : Refusal → Type 0) (gives : ℕ → Rooms → Type 0) (first : Refusal → Type 0) (fine : Type 0)
@@ -263,3 +269,28 @@ module _ (s : List ℕ) where
           (λ r p f. on-apart (text-apart s) later r (f .0) p (f .1)
           (λ h. asks-none (Issued (f .0) number) turns ⊥ r h (f .2) (f .3)
           (λ z. z))) (λ n after (R, a, (few, (x, q, is))). (R, a, (x, q .0, q .1), few))
+
+-- the calls on one number
+pub number-code-answers : (written : List ℕ) → Answers {Rooms = Unit {0}} (NumberCodeFine written) (NamesNone written)
+    (λ a after. NumberCode written a) tt
+number-code-answers written = record {
+  there = whole .there;
+  gives = λ a after p. whole .gives a tt p;
+  refusal = λ a after p. whole .refusal a tt p;
+  untouched = λ r after p. refl;
+}
+  where
+    whole : Answers {Rooms = Unit {0}} (NumberCodeFine written) (NamesNone written)
+        (OnInput {Rooms = Unit {0}} (Names written) (NamesNone written) (λ number r. ⊥) (λ number n after. n ≡ number) tt) tt
+    whole =
+        answers _ _ (NamesNone written) (NumberCodeFine written) tt (λ a a′ after after′ p q. unique-number-code written a a′ p q)
+        (number-code-there written) (λ r. inl)
+        (λ r p (n, f). on-apart (written-apart written) (λ number r. ⊥) r n p f (λ s. s)) (λ n after (m, p, e). (m, p))
+
+pub number-text-answers : (number : ℕ) (room : List ℕ) → Answers (NumberTextFine number room) (IsNobodys number)
+    (NumberText number room) room
+number-text-answers number room =
+    answers _ _ (IsNobodys number) (NumberTextFine number room) room
+    (λ a a′ after after′ p q. unique-number-text number room a a′ after after′ p q .0) (number-text-there number room) (λ r. inl)
+    (λ r p f. on-apart (code-apart number) (λ l. Short (length room < length l)) r (numberBytes number) p (f .0, refl)
+    (λ s. omega (arith, s .0, f .1))) (λ n after (l, (h, e), w). (h, omega (arith, w .1, ap length e)))

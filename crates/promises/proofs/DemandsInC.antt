@@ -37,6 +37,9 @@ use Rattle.promises.proofs.Demands.{pairs-exercise-answers, moves-label
 use Rattle.promises.proofs.Demands.{text-labels-answers, text-lengths-answers, text-listing-answers, text-line-answers}
 use Rattle.promises.proofs.Demands.{text-reason-answers, text-exercise-answers, text-sheet-answers}
 use Rattle.promises.proofs.Demands.{text-sheet-update-answers, text-mend-answers}
+use Rattle.promises.specs.NumberCalls.{NumberCode, NumberText, NamesNone, IsNobodys}
+use Rattle.promises.specs.Fine.{NumberCodeFine, NumberTextFine}
+use Rattle.promises.proofs.Demands.{number-code-answers, number-text-answers}
 use Rattle.promises.proofs.CallsSay.{pairs-labels-say, pairs-lengths-say, pairs-kinds-say, moves-labels-say}
 use Rattle.promises.proofs.CallsSay.{moves-lengths-say, text-labels-say, text-lengths-say, listing-says, reason-says}
 use Rattle.promises.proofs.CallsSay.{sheet-says, sheet-update-says}
@@ -208,3 +211,12 @@ module _ (s : List ℕ) where
   pub batqemulo-mend-issues-none : (lent : Lent) (c : CAnswer) (after : Lent) → InC (λ a. TextMend s lent a after) c
       → c .refusal ≡ 0 → (m end : ℕ) → EndsField end → Field (take (c .value) (after .0)) m end → IssuedIn s m
   batqemulo-mend-issues-none lent = in-c-says (TextMend s lent) _ (mend-issues-none s lent)
+
+-- the calls on one number
+pub batqemulo-number-answers : (written : List ℕ) → AnswersInC {Rooms = Unit {0}} (NumberCodeFine written) (NamesNone written)
+    (λ a after. NumberCode written a) tt
+batqemulo-number-answers written = in-c-answers (number-code-answers written)
+
+pub batqemulo-number-text-answers : (number : ℕ) (room : List ℕ)
+    → AnswersInC (NumberTextFine number room) (IsNobodys number) (NumberText number room) room
+batqemulo-number-text-answers number room = in-c-answers (number-text-answers number room)

@@ -26,8 +26,8 @@ use Rattle.register.specs.declared.StatementLine.{StatementLine}
 use Rattle.register.specs.declared.ObjectionLine.{ObjectionLine}
 use Rattle.register.specs.declared.Line.{Line}
 use Rattle.register.specs.declared.Line.the-variants.{Statement, Objection}
-use Rattle.register.proofs.Decimals.{Digits}
-use Rattle.register.proofs.Number.{Unbroken, split-once, number-unbroken, number-injective, number-digits, decimal-unbroken}
+use Rattle.register.proofs.Number.{Unbroken, split-once, number-unbroken, number-injective, decimal-unbroken}
+use Rattle.register.proofs.Number.{DigitFirst, number-leads}
 use Rattle.listing.specs.Rows.{statementRow, objectionRow, lengthField, accountFields}
 use Rattle.promises.specs.IssuedNumbers.{EndsField, WholeFields, Field}
 
@@ -129,12 +129,12 @@ lettered-unbroken [] t = absurd t
 lettered-unbroken (b ∷ bs) t =
     let (p, q) = both (ltb 57 b) (above bs) t in (omega (arith, ltb→lt 57 b p), above-unbroken bs q)
 
-no-number : (w : List ℕ) → T (lettered w) → (n : ℕ) → w ≡ numberBytes n → ⊥
+no-number : (w : List ℕ) → T (lettered w) → (n : ℕ) → IsNumber n → w ≡ numberBytes n → ⊥
 unfolding lettered
-no-number [] t n e = t
-no-number (b ∷ bs) t n e =
+no-number [] t n h e = t
+no-number (b ∷ bs) t n h e =
     let (p, q) = both (ltb 57 b) (above bs) t in
-    let d : Digits (b ∷ bs) = subst Digits (sym e) (number-digits n) in
+    let d : DigitFirst (b ∷ bs) = subst DigitFirst (sym e) (number-leads n h) in
     omega (arith, d .1, ltb→lt 57 b p)
 
 pub verdict-word : (v : Verdict) → T (lettered (verdictAccount v .word))
@@ -218,7 +218,7 @@ module _ (P : ℕ → Type 0) (ends : ℕ → Type 0) (low-ends : (e : ℕ) → 
   only-word w rest b l k o m end e f = go (cut w rest b m end (lettered-unbroken w l) k (low-ends end e) f)
     where
       go : ((w ≡ numberBytes m) × (b ≡ end)) ⊎ Field rest m end → P m
-      go (inl (q, i)) = absurd (no-number w l m q)
+      go (inl (q, i)) = absurd (no-number w l m (f .number) q)
       go (inr g) = o m end e g
 
   -- a field whose end is none of those

@@ -6,6 +6,7 @@ pub mod DemandsInC
 pub mod Fields
 pub mod IssuedNumbers
 pub mod OnLists
+pub mod OnNumber
 pub mod OnText
 pub mod Programs
 pub mod Says
@@ -18,6 +19,7 @@ pub mod UniqueKinds
 pub mod UniqueLabels
 pub mod UniqueListing
 pub mod UniqueMend
+pub mod UniqueNumber
 pub mod UniqueReason
 pub mod UniqueSheet
 pub mod WrittenOnce

@@ -1,6 +1,6 @@
 -- What each program prints for its input is one thing only: `printed-once`, `reason-printed-once`, `outcome-once`; and whatever
 -- the input, there is something to print: `printed-there`, `reason-printed-there`, `outcome-there`.
-use mathlib.Core.List.{List, [], _∷_}
+use mathlib.Core.List.{List}
 use mathlib.Core.Logic.{inl, inr, _⊎_}
 use mathlib.Core.Path.{subst, ap, refl, sym, _≡_, _∙_}
 use Prim.Native.Nat.{ℕ, _≤_, _<_}
@@ -10,6 +10,8 @@ use lib.ListN.{length, getD}
 use Rattle.answer.specs.Refusals.{refusalNumber, refusalPlace}
 use Rattle.answer.specs.declared.Refusal.{Refusal}
 use Rattle.promises.specs.OnText.{TextRefused}
+use Rattle.promises.specs.NumberCalls.{Names}
+use Rattle.promises.proofs.OnNumber.{names-once, names?}
 use Rattle.register.specs.Register.{Register, Places, numbers, written}
 use Rattle.register.specs.Reads.{Accepts, Refuses}
 use Rattle.register.specs.declared.TextFault.{TextFault}
@@ -17,13 +19,11 @@ use Rattle.register.specs.declared.TextFault.the-variants.{TooLong}
 use Rattle.listing.specs.Rows.{refusedRow}
 use Rattle.listing.specs.Listing.{IsListing}
 use Rattle.listing.proofs.Listing.{listing-once, listing-there}
-use Rattle.promises.specs.Programs.{Prints, Names, ReasonNamed, NoneNamed, PrintsRefusal, PrintsReason, Outcome, Mends}
+use Rattle.promises.specs.Programs.{Prints, ReasonNamed, NoneNamed, PrintsRefusal, PrintsReason, Outcome, Mends}
 use Rattle.promises.specs.Programs.{no-report, with-report, PrintsFault}
-use Rattle.register.specs.Number.{IsNumber, numberBytes}
-use Rattle.register.proofs.Number.{number-injective, number?}
 use Rattle.answer.specs.declared.Refusal.the-variants.{Asked, Text}
 use Rattle.register.proofs.Order.{place-once, numbers-counted}
-use Rattle.register.proofs.Settled.{Settles, same?, below?, settled}
+use Rattle.register.proofs.Settled.{Settles, below?, settled}
 use Rattle.reason.specs.Reasons.{IsReason}
 use Rattle.reason.proofs.Reasons.{reason-once, reason-there}
 use Rattle.mend.specs.Mended.{mended, fates}
@@ -45,9 +45,6 @@ printed-once s a b (inl (R, p, is)) (inl (Q, q, isn)) =
 printed-once s a b (inl (R, p, is)) (inr (r, q, e)) = absurd (text.not-both s R r p q)
 printed-once s a b (inr (r, p, e)) (inl (R, q, is)) = absurd (text.not-both s R r q p)
 printed-once s a b (inr p) (inr q) = fault-printed-once s a b p q
-
-pub names-once : (argument : List ℕ) (n m : ℕ) → Names argument n → Names argument m → n ≡ m
-names-once argument n m (h, e) (k, f) = number-injective n m h k (sym e ∙ f)
 
 module _ (s argument a b : List ℕ) where
   one-reason : (R : Register) → Accepts s R → ReasonNamed R argument a → ReasonNamed R argument b → a ≡ b
@@ -89,26 +86,6 @@ printed-there s = go (settled s)
     go : ((R : Register) × Accepts s R) ⊎ ((r : TextFault) × Refuses s r) → (printed : List ℕ) × Prints s printed
     go (inl (R, a)) = let (l, is) = listing-there R (a .valid) in (l, inl (R, a, is))
     go (inr (r, p)) = let (l, is) = fault-there s r p in (l, inr is)
-
--- the argument is this number, or it is not
-alike? : (u v : List ℕ) → Settles (u ≡ v)
-alike? [] [] = inl refl
-alike? [] (b ∷ v) = inr (λ e. let z : _≡_ {A = ℕ} 0 1 = cc in omega arith)
-alike? (a ∷ u) [] = inr (λ e. let z : _≡_ {A = ℕ} 0 1 = cc in omega arith)
-alike? (a ∷ u) (b ∷ v) = go (same? a b) (alike? u v)
-  where
-    go : Settles (a ≡ b) → Settles (u ≡ v) → Settles (a ∷ u ≡ b ∷ v)
-    go (inl p) (inl q) = inl (ap (λ c. c ∷ u) p ∙ ap (λ w. b ∷ w) q)
-    go (inl p) (inr n) = inr (λ e. n cc)
-    go (inr n) q = inr (λ e. n cc)
-
-names? : (argument : List ℕ) (n : ℕ) → Settles (Names argument n)
-names? argument n = go (number? n) (alike? argument (numberBytes n))
-  where
-    go : Settles (IsNumber n) → Settles (argument ≡ numberBytes n) → Settles (Names argument n)
-    go (inl p) (inl q) = inl (p, q)
-    go (inl p) (inr m) = inr (λ w. m (w .1))
-    go (inr m) q = inr (λ w. m (w .0))
 
 pub reason-printed-there : (s argument : List ℕ) → (printed : List ℕ) × PrintsReason s argument printed
 reason-printed-there s argument = go (settled s)

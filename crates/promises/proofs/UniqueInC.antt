@@ -20,6 +20,8 @@ use Rattle.promises.specs.SheetCalls.{TextSheet, TextSheetUpdate}
 use Rattle.promises.proofs.UniqueSheet.{unique-text-sheet, unique-text-sheet-update}
 use Rattle.promises.specs.MendCalls.{Lent, TextMend}
 use Rattle.promises.proofs.UniqueMend.{unique-text-mend}
+use Rattle.promises.specs.NumberCalls.{NumberCode, NumberText}
+use Rattle.promises.proofs.UniqueNumber.{unique-number-code, unique-number-text}
 use Rattle.answer.specs.InC.{InC, inC}
 use Rattle.answer.specs.declared.CAnswer.{CAnswer}
 
@@ -112,3 +114,12 @@ pub unique-batqemulo-mend : (s : List ℕ) (lent : Lent) (c c′ : CAnswer) (aft
     c
     → InC (λ a. TextMend s lent a after′) c′ → (c ≡ c′) × (after ≡ after′)
 unique-batqemulo-mend s lent = in-c-unique (TextMend s lent) (unique-text-mend s lent)
+
+-- the calls on one number
+pub unique-batqemulo-number : (written : List ℕ) (c c′ : CAnswer) → InC (NumberCode written) c → InC (NumberCode written) c′
+    → c ≡ c′
+unique-batqemulo-number written = one-answer (NumberCode written) (unique-number-code written)
+
+pub unique-batqemulo-number-text : (number : ℕ) (room : List ℕ) (c c′ : CAnswer) (after after′ : List ℕ)
+    → InC (λ a. NumberText number room a after) c → InC (λ a. NumberText number room a after′) c′ → (c ≡ c′) × (after ≡ after′)
+unique-batqemulo-number-text number room = in-c-unique (NumberText number room) (unique-number-text number room)

@@ -8,6 +8,7 @@ use Rattle.game.specs.Argument.{Argument}
 use Rattle.lists.specs.Refuses.{Lists}
 use Rattle.register.specs.Register.{Register, Places, Issued, book, written}
 use Rattle.register.specs.Reads.{Accepts}
+use Rattle.register.specs.Number.{IsNumber, numberBytes}
 use Rattle.listing.specs.Listing.{IsListing}
 use Rattle.reason.specs.Reasons.{IsReason}
 use Rattle.sheet.specs.Sheet.{bytesFor, codes}
@@ -16,6 +17,7 @@ use Rattle.mend.specs.Mended.{mended, fates}
 use Rattle.mend.specs.Report.{reportOf}
 use Rattle.promises.specs.SheetCalls.{OldSheet}
 use Rattle.promises.specs.MendCalls.{Lent, Lined}
+use Rattle.promises.specs.NumberCalls.{Names}
 
 module _ (marks objectors targets : List ℕ) where
   -- labels, and lengths
@@ -69,3 +71,10 @@ module _ (text : List ℕ) where
   TextMendFine lent =
       (ls : List TextLine) × Lined text ls × (length (written (mended ls)) ≤ length (lent .0))
       × (length (reportOf (fates ls)) ≤ length (lent .1))
+
+-- the calls on one number
+abbrev pub NumberCodeFine : (written : List ℕ) → Type 0
+NumberCodeFine written = (number : ℕ) × Names written number
+
+abbrev pub NumberTextFine : (number : ℕ) (room : List ℕ) → Type 0
+NumberTextFine number room = IsNumber number × (length (numberBytes number) ≤ length room)

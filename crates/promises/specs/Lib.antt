@@ -7,6 +7,7 @@ pub mod KindCalls
 pub mod LabelCalls
 pub mod ListingCalls
 pub mod MendCalls
+pub mod NumberCalls
 pub mod OnLists
 pub mod OnText
 pub mod Programs

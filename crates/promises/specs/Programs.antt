@@ -12,7 +12,6 @@ use Rattle.register.specs.Register.{Register, Places, Issued, written}
 use Rattle.listing.specs.Rows.{refusedRow}
 use Rattle.listing.specs.Listing.{IsListing}
 use Rattle.register.specs.Reads.{Accepts, Refuses}
-use Rattle.register.specs.Number.{IsNumber, numberBytes}
 use Rattle.answer.specs.declared.Refusal.the-variants.{Asked, Text}
 use Rattle.register.specs.declared.TextFault.{TextFault}
 use Rattle.register.specs.declared.TextFault.the-variants.{TooLong}
@@ -20,6 +19,7 @@ use Rattle.reason.specs.Reasons.{IsReason}
 use Rattle.mend.specs.TextLines.{TextLine, LinesOf}
 use Rattle.mend.specs.Mended.{mended, fates}
 use Rattle.mend.specs.Report.{reportOf}
+use Rattle.promises.specs.NumberCalls.{Names}
 
 -- the line of a refusal; and that of the fault of a text that is refused, so with a number from 1 to 9
 abbrev pub PrintsRefusal : Refusal → List ℕ → Type 0
@@ -32,11 +32,7 @@ PrintsFault text printed = (fault : TextFault) × Refuses text fault × PrintsRe
 abbrev pub Prints : (text printed : List ℕ) → Type 0
 Prints text printed = ((R : Register) × Accepts text R × IsListing R printed) ⊎ PrintsFault text printed
 
--- the argument is this number, as a register text has it
-abbrev pub Names : (argument : List ℕ) → (number : ℕ) → Type 0
-Names argument number = IsNumber number × (argument ≡ numberBytes number)
-
--- the reason of the statement of the register that the argument names; or it names none
+-- the reason of the statement of the register that the argument, as its number is written, names; or it names none
 abbrev pub ReasonNamed : Register → (argument printed : List ℕ) → Type 0
 ReasonNamed R argument printed = (number x : ℕ) × Names argument number × Places R number x × IsReason R x printed
 

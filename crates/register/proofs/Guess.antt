@@ -17,8 +17,8 @@ use Rattle.register.specs.declared.Mark.{Mark}
 use Rattle.register.specs.declared.Mark.the-variants.{Read, Unread}
 use Rattle.register.specs.declared.Line.{Line}
 use Rattle.register.specs.declared.Line.the-variants.{Statement, Objection}
-use Rattle.register.proofs.Decimals.{spell}
 use Rattle.register.proofs.Number.{numberTest, number-tested, number-passes, number-says, number-unbroken, Unbroken}
+use Rattle.register.proofs.Number.{spellNumber}
 
 -- The first field ends at a byte up to 10; what stands behind that byte.
 unfoldable pub field : List ℕ → List ℕ
@@ -46,16 +46,16 @@ guessMark b = cond (eqb b 82) Read Unread
 unfoldable pub guessFields : (kind : ℕ) (fields : List ℕ) → Line
 guessFields kind fields =
     cond (eqb kind 83)
-    (Statement (record { number = spell 0 (field fields); mark = guessMark (getD (behind fields) 0 0) }))
-    (Objection (record { objector = spell 0 (field fields); target = spell 0 (field (behind fields)) }))
+    (Statement (record { number = spellNumber 0 (field fields); mark = guessMark (getD (behind fields) 0 0) }))
+    (Objection (record { objector = spellNumber 0 (field fields); target = spellNumber 0 (field (behind fields)) }))
 
 unfoldable pub guessLine : List ℕ → Line
 guessLine s = guessFields (getD s 0 0) (drop 2 s)
 
 module _ (n : ℕ) (h : IsNumber n) (c : ℕ) (l : c ≤ 10) (r : List ℕ) where
-  number-guessed : n ≡ spell 0 (field (numberBytes n ++ (c ∷ r)))
+  number-guessed : n ≡ spellNumber 0 (field (numberBytes n ++ (c ∷ r)))
   number-guessed =
-      sym (number-says n h) ∙ ap (spell 0) (sym (field-is (numberBytes n) c r (number-unbroken n h) l))
+      sym (number-says n h) ∙ ap (spellNumber 0) (sym (field-is (numberBytes n) c r (number-unbroken n h) l))
 
   rest-guessed : r ≡ behind (numberBytes n ++ (c ∷ r))
   rest-guessed = sym (behind-is (numberBytes n) c r (number-unbroken n h) l)
@@ -70,18 +70,18 @@ pub guess-only : (l : Line) (s : List ℕ) → BeginsWith l s → l ≡ guessLin
 unfolding guessLine guessFields
 guess-only (Statement st) s (w, (r, e)) =
     let tail : List ℕ = markByte (st .mark) ∷ 10 ∷ r in
-    let n : st .number ≡ spell 0 (field (numberBytes (st .number) ++ (9 ∷ tail))) = number-guessed (st .number) w 9 (omega arith)
-    tail in
+    let n : st .number ≡ spellNumber 0 (field (numberBytes (st .number) ++ (9 ∷ tail))) = number-guessed (st .number) w 9
+    (omega arith) tail in
     let m : st .mark ≡ guessMark (getD (behind (numberBytes (st .number) ++ (9 ∷ tail))) 0 0) = mark-guessed (st .mark)
     ∙ ap (λ (u : List ℕ). guessMark (getD u 0 0)) (rest-guessed (st .number) w 9 (omega arith) tail) in
     let is : s ≡ 83 ∷ 9 ∷ (numberBytes (st .number) ++ (9 ∷ tail)) = simp append-assoc at e in
     subst (λ u. Statement st ≡ guessLine u) (sym is) (λ i. Statement (record { number = n i; mark = m i }))
 guess-only (Objection o) s (w, (r, e)) =
     let tail : List ℕ = numberBytes (o .target) ++ (10 ∷ r) in
-    let y : o .objector ≡ spell 0 (field (numberBytes (o .objector) ++ (9 ∷ tail))) = number-guessed (o .objector) (w .0) 9
+    let y : o .objector ≡ spellNumber 0 (field (numberBytes (o .objector) ++ (9 ∷ tail))) = number-guessed (o .objector) (w .0) 9
     (omega arith) tail in
-    let x : o .target ≡ spell 0 (field (behind (numberBytes (o .objector) ++ (9 ∷ tail)))) = number-guessed (o .target) (w .1) 10
-    (omega arith) r ∙ ap (λ u. spell 0 (field u)) (rest-guessed (o .objector) (w .0) 9 (omega arith) tail) in
+    let x : o .target ≡ spellNumber 0 (field (behind (numberBytes (o .objector) ++ (9 ∷ tail)))) = number-guessed (o .target)
+    (w .1) 10 (omega arith) r ∙ ap (λ u. spellNumber 0 (field u)) (rest-guessed (o .objector) (w .0) 9 (omega arith) tail) in
     let is : s ≡ 79 ∷ 9 ∷ (numberBytes (o .objector) ++ (9 ∷ tail)) = simp append-assoc at e in
     subst (λ u. Objection o ≡ guessLine u) (sym is) (λ i. Objection (record { objector = y i; target = x i }))
 

@@ -3,6 +3,7 @@ pub mod Digits
 pub mod Guess
 pub mod Lines
 pub mod Number
+pub mod NumberForms
 pub mod OneMore
 pub mod Order
 pub mod Settled

@@ -1,63 +1,198 @@
--- Laws of a register's numbers: the one file that looks into what a number is and how it is written. Lines, listings, examples
--- and programs go by these laws; reading a number, its size and writing it are left to `register_number`.
-use mathlib.Core.Bool.{Bool, _&&_}
+-- Laws of a register's numbers: with `NumberForms` the one file that looks into what a number is and how it is written. Lines,
+-- listings, examples and programs go by these laws; reading a number, its size and writing it are left to `register_number`.
+use mathlib.Core.Bool.{Bool, cond, not, _&&_}
 use mathlib.Core.List.{List, append-assoc, append-nil, [], _∷_, _++_}
 use mathlib.Core.Logic.{inl, inr, _⊎_, _↔_}
 use mathlib.Core.Path.{ap, refl, subst, sym, _≡_, _∙_}
-use Prim.Native.Nat.{ℕ, suc, _+_, _-_, _*_, _^_, _≤_, _<_}
-use native.Mathlib.Nat.{pow-suc, pow-le-pow-right}
+use Prim.Native.Nat.{ℕ, suc, _+_, _-_, _*_, _/_, _%_, _≤_, _<_}
 use native.Mathlib.Decide.{decLt}
 use native.Mathlib.Omega.{arith}
-use lib.Dec.{T, ltb, ltb→lt, lt→ltb}
-use lib.ListN.{length, getD}
-use Rattle.game.proofs.Search.{both, and-of}
+use lib.Dec.{T, ltb, leb, eqb, ltb→lt, lt→ltb, leb→le, le→leb}
+use lib.ListN.{length, length-append}
+use borrow.Author.Tests.{lt-ltb, le-ltb, ne-eqb}
+use Rattle.game.proofs.Search.{both, and-of, decide, clash}
 use Rattle.register.specs.Texts.{decimal}
-use Rattle.register.specs.Number.{IsNumber, numberBytes}
-use Rattle.register.proofs.Decimals.{Digits, decimal-digits, decimal-injective, decimal-says, spell, decimal-one}
-use Rattle.register.proofs.Decimals.{decimal-more, Leads, decimal-leads}
+use Rattle.register.specs.Number.{Proper, formBytes, code, Earlier, formOf, IsNumber, numberBytes}
+use Rattle.register.specs.declared.Form.{Form}
+use Rattle.register.specs.declared.Form.the-variants.{Plain, Year}
+use Rattle.register.specs.declared.YearSerial.{YearSerial}
+use Rattle.register.proofs.Decimals.{Digits, decimal-digits, decimal-says, spell, Leads, decimal-leads}
 use Rattle.register.proofs.Digits.{few-digits, ten-digits}
 
--- Which numbers there are: 0 is none, and none is at `numbersEnd` or above.
-pub number-above : (n : ℕ) → IsNumber n → 0 < n
+-- The number of a code, for a code below 100,000,000 and for any other.
+pub plain-of : (n : ℕ) → n < 100000000 → formOf n ≡ Plain n
+plain-of n h = simp (lt-ltb n 100000000 h)
+
+pub year-of : (n : ℕ) → 100000000 ≤ n → formOf n ≡ Year (record { year = n / 10000 - 10000; serial = n % 10000 })
+year-of n h = simp (le-ltb n 100000000 h)
+
+-- its value, or its serial, is below the limit, whatever the code is
+abbrev pub Limited : Form → Type 0
+Limited (Plain value) = value < 100000000
+Limited (Year dated) = dated .serial < 10000
+
+pub form-limited : (n : ℕ) → Limited (formOf n)
+form-limited n = go (decLt n 100000000)
+  where
+    go : Dec (n < 100000000) → Limited (formOf n)
+    go (yes h) = subst Limited (sym (plain-of n h)) h
+    go (no h) = subst Limited (sym (year-of n (omega arith))) (omega arith)
+
+-- a code is the code of its form; so no two numbers have the same
+pub form-of-code : (form : Form) → Proper form → formOf (code form) ≡ form
+form-of-code (Plain value) h = plain-of value (h .1)
+form-of-code (Year dated) h =
+    let n : ℕ = code (Year dated) in
+    let y : n / 10000 - 10000 ≡ dated .year = omega arith in
+    let s : n % 10000 ≡ dated .serial = omega arith in
+    year-of n (omega arith) ∙ (λ i. Year (record { year = y i; serial = s i }))
+
+pub code-injective : (form form′ : Form) → Proper form → Proper form′ → code form ≡ code form′ → form ≡ form′
+code-injective form form′ h h′ e = sym (form-of-code form h) ∙ ap formOf e ∙ form-of-code form′ h′
+
+-- a smaller code exactly if earlier
+pub code-order : (form form′ : Form) → Proper form → Proper form′ → (code form < code form′) ↔ Earlier form form′
+code-order (Plain value) (Plain value′) h h′ = (λ l. l, λ l. l)
+code-order (Plain value) (Year dated) h h′ = (λ l. tt, λ l. omega (arith, h .1))
+code-order (Year dated) (Plain value) h h′ = (λ l. omega (arith, l, h′ .1), λ l. absurd l)
+code-order (Year dated) (Year dated′) h h′ = (to (decLt (dated .year) (dated′ .year)), from)
+  where
+    to : Dec (dated .year < dated′ .year) → code (Year dated) < code (Year dated′) → Earlier (Year dated) (Year dated′)
+    to (yes y) l = inl (omega arith)
+    to (no y) l = inr (omega (arith, h′), omega (arith, h′))
+
+    from : Earlier (Year dated) (Year dated′) → code (Year dated) < code (Year dated′)
+    from (inl y) = omega (arith, h)
+    from (inr (e, s)) = omega arith
+
+-- What holds of the two forms holds of every number and its bytes.
+pub code-number : (form : Form) → Proper form → IsNumber (code form)
 unfolding IsNumber
-number-above n h = h .0
+code-number form h = (form, h, refl)
+
+pub code-bytes : (form : Form) → Proper form → numberBytes (code form) ≡ formBytes form
+unfolding numberBytes
+code-bytes form h = ap formBytes (form-of-code form h)
+
+-- a plain number's are its decimals
+pub plain-number : (n : ℕ) → 0 < n → n < 100000000 → IsNumber n
+plain-number n h k = code-number (Plain n) (h, k)
+
+pub plain-bytes : (n : ℕ) → 0 < n → n < 100000000 → numberBytes n ≡ decimal n
+plain-bytes n h k = code-bytes (Plain n) (h, k)
+
+module _ (P : ℕ → List ℕ → Type 0) (of-plain : (value : ℕ) → 0 < value → value < 100000000 → P value (decimal value))
+    (of-year : (y s : ℕ) → 1000 ≤ y → y ≤ 2099 → 0 < s → s < 10000
+    → P (100000000 + 10000 * y + s) (decimal y ++ (46 ∷ decimal s))) where
+  pub by-form : (n : ℕ) → IsNumber n → P n (numberBytes n)
+  unfolding IsNumber
+  by-form n (form, h, e) =
+      subst (λ m. P m (numberBytes m)) (sym e) (subst (P (code form)) (sym (code-bytes form h)) (go form h))
+    where
+      go : (form : Form) → Proper form → P (code form) (formBytes form)
+      go (Plain value) h = of-plain value (h .0) (h .1)
+      go (Year dated) h = of-year (dated .year) (dated .serial) (h .0) (h .1) (h .2) (h .3)
+
+-- Which codes there are: 0 is none, and none is at `numbersEnd` or above.
+pub number-above : (n : ℕ) → IsNumber n → 0 < n
+number-above = by-form (λ n l. 0 < n) (λ value h k. h) (λ y s a b c d. omega arith)
 
 unfoldable pub numbersEnd : ℕ
-numbersEnd = 100000000
+numbersEnd = 121000000
 
 pub number-below : (n : ℕ) → IsNumber n → n < numbersEnd
-unfolding IsNumber numbersEnd
-number-below n h = h .1
+unfolding numbersEnd
+number-below = by-form (λ n l. n < 121000000) (λ value h k. omega arith) (λ y s a b c d. omega arith)
 
-pub number? : (n : ℕ) → IsNumber n ⊎ (¬ IsNumber n)
-unfolding IsNumber
-number? n = go (decLt 0 n) (decLt n 100000000)
+-- the form of a code has that code; so a code is a number's exactly if its form is proper
+code-of-form : (n : ℕ) → n ≡ code (formOf n)
+code-of-form n = go (decLt n 100000000)
   where
-    go : Dec (0 < n) → Dec (n < 100000000) → IsNumber n ⊎ (¬ IsNumber n)
-    go (yes p) (yes q) = inl (p, q)
-    go (yes p) (no q) = inr (λ h. q (h .1))
-    go (no p) q = inr (λ h. p (h .0))
+    go : Dec (n < 100000000) → n ≡ code (formOf n)
+    go (yes h) = ap code (sym (plain-of n h))
+    go (no h) =
+        let e : n ≡ 100000000 + 10000 * (n / 10000 - 10000) + n % 10000 = omega arith in
+        e ∙ ap code (sym (year-of n (omega arith)))
+
+pub proper-number : (n : ℕ) → Proper (formOf n) → IsNumber n
+unfolding IsNumber
+proper-number n h = (formOf n, h, code-of-form n)
+
+pub number-proper : (n : ℕ) → IsNumber n → Proper (formOf n)
+unfolding IsNumber
+number-proper n (form, h, e) = subst (λ m. Proper (formOf m)) (sym e) (subst Proper (sym (form-of-code form h)) h)
 
 -- a test that computes
+abbrev pub properTest : Form → Bool
+properTest (Plain value) = ltb 0 value && ltb value 100000000
+properTest (Year dated) =
+    (leb 1000 (dated .year) && leb (dated .year) 2099) && (ltb 0 (dated .serial) && ltb (dated .serial) 10000)
+
 unfoldable pub numberTest : ℕ → Bool
-numberTest n = ltb 0 n && ltb n 100000000
+numberTest n = properTest (formOf n)
 
 pub number-tested : (n : ℕ) → T (numberTest n) → IsNumber n
-unfolding IsNumber numberTest
-number-tested n t = let (a, b) = both (ltb 0 n) (ltb n 100000000) t in (ltb→lt 0 n a, ltb→lt n 100000000 b)
+unfolding numberTest
+number-tested n t = proper-number n (go (formOf n) t)
+  where
+    go : (form : Form) → T (properTest form) → Proper form
+    go (Plain value) t =
+        let (a, b) = both (ltb 0 value) (ltb value 100000000) t in (ltb→lt 0 value a, ltb→lt value 100000000 b)
+    go (Year dated) t =
+        let (y, s) = both (leb 1000 (dated .year) && leb (dated .year) 2099)
+        (ltb 0 (dated .serial) && ltb (dated .serial) 10000) t in
+        let (a, b) = both (leb 1000 (dated .year)) (leb (dated .year) 2099) y in
+        let (c, d) = both (ltb 0 (dated .serial)) (ltb (dated .serial) 10000) s in (
+          leb→le 1000 (dated .year) a,
+          leb→le (dated .year) 2099 b,
+          ltb→lt 0 (dated .serial) c,
+          ltb→lt (dated .serial) 10000 d,
+        )
 
 pub number-passes : (n : ℕ) → IsNumber n → T (numberTest n)
-unfolding IsNumber numberTest
-number-passes n h = and-of (ltb 0 n) (ltb n 100000000) (lt→ltb 0 n (h .0)) (lt→ltb n 100000000 (h .1))
+unfolding numberTest
+number-passes n h = go (formOf n) (number-proper n h)
+  where
+    go : (form : Form) → Proper form → T (properTest form)
+    go (Plain value) h = and-of (ltb 0 value) (ltb value 100000000) (lt→ltb 0 value (h .0)) (lt→ltb value 100000000 (h .1))
+    go (Year dated) h =
+        and-of (leb 1000 (dated .year) && leb (dated .year) 2099) (ltb 0 (dated .serial) && ltb (dated .serial) 10000)
+        (and-of (leb 1000 (dated .year)) (leb (dated .year) 2099) (le→leb 1000 (dated .year) (h .0))
+        (le→leb (dated .year) 2099 (h .1)))
+        (and-of (ltb 0 (dated .serial)) (ltb (dated .serial) 10000) (lt→ltb 0 (dated .serial) (h .2))
+        (lt→ltb (dated .serial) 10000 (h .3)))
 
--- How long its bytes are, and those of any other number.
-pub number-short : (n : ℕ) → IsNumber n → length (numberBytes n) ≤ 8
-unfolding IsNumber numberBytes
-number-short n h = few-digits 7 n (omega arith) (h .1)
+pub number? : (n : ℕ) → IsNumber n ⊎ (¬ IsNumber n)
+number? n = go (decide (numberTest n))
+  where
+    go : T (numberTest n) ⊎ T (not (numberTest n)) → IsNumber n ⊎ (¬ IsNumber n)
+    go (inl t) = inl (number-tested n t)
+    go (inr t) = inr (λ h. clash (numberTest n) (number-passes n h) t)
 
-pub number-small : (n : ℕ) → length (numberBytes n) ≤ 10
+-- How long its bytes are, and those of any other code.
+pub number-short : (n : ℕ) → IsNumber n → length (numberBytes n) ≤ 9
+number-short =
+    by-form (λ n l. length l ≤ 9) (λ value h k. omega (arith, few-digits 7 value (omega arith) k))
+    (λ y s a b c d. omega (
+      arith,
+      length-append (decimal y) (46 ∷ decimal s),
+      few-digits 3 y (omega arith) (omega arith),
+      few-digits 3 s (omega arith) (omega arith),
+    ))
+
+pub number-small : (n : ℕ) → length (numberBytes n) ≤ 15
 unfolding numberBytes
-number-small n = ten-digits n
+number-small n = go (decLt n 100000000)
+  where
+    go : Dec (n < 100000000) → length (formBytes (formOf n)) ≤ 15
+    go (yes h) = rw (plain-of n h) (omega (arith, ten-digits n))
+    go (no h) =
+        rw (year-of n (omega arith)) (omega (
+          arith,
+          length-append (decimal (n / 10000 - 10000)) (46 ∷ decimal (n % 10000)),
+          ten-digits (n / 10000 - 10000),
+          few-digits 3 (n % 10000) (omega arith) (omega arith),
+        ))
 
 -- every byte is above 10, so that none of them parts fields or ends a line
 abbrev pub Unbroken : List ℕ → Type 0
@@ -68,24 +203,59 @@ digits-unbroken : (ds : List ℕ) → Digits ds → Unbroken ds
 digits-unbroken [] d = tt
 digits-unbroken (b ∷ bs) (l, h, d) = (omega arith, digits-unbroken bs d)
 
+unbroken-append : (p q : List ℕ) → Unbroken p → Unbroken q → Unbroken (p ++ q)
+unbroken-append [] q a b = b
+unbroken-append (x ∷ p) q (l, a) b = (l, unbroken-append p q a b)
+
 pub decimal-unbroken : (n : ℕ) → Unbroken (decimal n)
 decimal-unbroken n = digits-unbroken (decimal n) (decimal-digits n)
 
-pub number-digits : (n : ℕ) → Digits (numberBytes n)
-unfolding numberBytes
-number-digits = decimal-digits
-
 pub number-unbroken : (n : ℕ) → IsNumber n → Unbroken (numberBytes n)
-number-unbroken n h = digits-unbroken (numberBytes n) (number-digits n)
+number-unbroken =
+    by-form (λ n l. Unbroken l) (λ value h k. decimal-unbroken value)
+    (λ y s a b c d. unbroken-append (decimal y) (46 ∷ decimal s) (decimal-unbroken y) (omega arith, decimal-unbroken s))
+
+-- the first byte is a digit, and not that of 0
+abbrev pub DigitFirst : List ℕ → Type 0
+DigitFirst [] = ⊥
+DigitFirst (b ∷ bs) = (48 < b) × (b ≤ 57)
+
+decimal-first : (n : ℕ) (behind : List ℕ) → 0 < n → n < 100000000 → DigitFirst (decimal n ++ behind)
+decimal-first n behind h k = go (decimal n) (decimal-leads n (omega arith)) (decimal-digits n)
+  where
+    go : (ds : List ℕ) → Leads n ds → Digits ds → DigitFirst (ds ++ behind)
+    go [] l d = absurd l
+    go (b ∷ bs) l d = (l h, d .1)
+
+pub number-leads : (n : ℕ) → IsNumber n → DigitFirst (numberBytes n)
+number-leads =
+    by-form (λ n l. DigitFirst l) (λ value h k. rw append-nil at (decimal-first value [] h k))
+    (λ y s a b c d. decimal-first y (46 ∷ decimal s) (omega arith) (omega arith))
+
+-- The number that bytes say: digits, or digits, a point and digits.
+unfoldable pub spellNumber : ℕ → List ℕ → ℕ
+spellNumber a [] = a
+spellNumber a (b ∷ bs) = cond (eqb b 46) (100000000 + 10000 * a + spell 0 bs) (spellNumber (a * 10 + (b - 48)) bs)
+
+spells-plain : (a : ℕ) (ds : List ℕ) → Digits ds → spellNumber a ds ≡ spell a ds
+unfolding spellNumber spell
+spells-plain a [] d = refl
+spells-plain a (b ∷ bs) (l, h, d) = rw (ne-eqb b 46 (λ e. omega arith)) (spells-plain (a * 10 + (b - 48)) bs d)
+
+spells-year : (a : ℕ) (ds s : List ℕ) → Digits ds → spellNumber a (ds ++ (46 ∷ s)) ≡ 100000000 + 10000 * spell a ds + spell 0 s
+unfolding spellNumber spell
+spells-year a [] s d = refl
+spells-year a (b ∷ bs) s (l, h, d) = rw (ne-eqb b 46 (λ e. omega arith)) (spells-year (a * 10 + (b - 48)) bs s d)
+
+pub number-says : (n : ℕ) → IsNumber n → spellNumber 0 (numberBytes n) ≡ n
+number-says =
+    by-form (λ n l. spellNumber 0 l ≡ n)
+    (λ value h k. spells-plain 0 (decimal value) (decimal-digits value) ∙ decimal-says value (omega arith))
+    (λ y s a b c d. spells-year 0 (decimal y) (decimal s) (decimal-digits y)
+    ∙ omega (arith, decimal-says y (omega arith), decimal-says s (omega arith)))
 
 pub number-injective : (n m : ℕ) → IsNumber n → IsNumber m → numberBytes n ≡ numberBytes m → n ≡ m
-unfolding IsNumber numberBytes
-number-injective n m h k e = decimal-injective n m (omega (arith, h .1)) (omega (arith, k .1)) e
-
--- its digits say it
-pub number-says : (n : ℕ) → IsNumber n → spell 0 (numberBytes n) ≡ n
-unfolding IsNumber numberBytes
-number-says n h = decimal-says n (omega (arith, h .1))
+number-injective n m h k e = sym (number-says n h) ∙ ap (spellNumber 0) e ∙ number-says m k
 
 -- bytes above 10 with a byte up to 10 behind them are parted from what follows at one place only
 pub split-once : (p q : List ℕ) (c d : ℕ) (r t : List ℕ) → Unbroken p → Unbroken q → c ≤ 10 → d ≤ 10
@@ -104,59 +274,3 @@ pub number-once : (n m c d : ℕ) (r t : List ℕ) → IsNumber n → IsNumber m
 number-once n m c d r t h k a b e =
     let (f, i, g) = split-once (numberBytes n) (numberBytes m) c d r t (number-unbroken n h) (number-unbroken m k) a b e in
     (number-injective n m h k f, g)
-
--- "A number is 1 to 8 decimal digits, the first not 0": bytes are a number's exactly if they are so.
-pub record OneToEight (l : List ℕ) : Type 0 where
-  pub some : 0 < length l
-  pub few : length l ≤ 8
-  pub digits : Digits l
-  pub leads : 48 < getD l 0 0
-
--- digits behind those of a number above 0 are those of another
-more-digits : (ds : List ℕ) (n k : ℕ) → 0 < n → n < 10 ^ k → Digits ds → k + length ds ≤ 8
-    → (m : ℕ) × (0 < m) × (m < 10 ^ (k + length ds)) × (decimal m ≡ decimal n ++ ds)
-more-digits [] n k a b d h = (n, a, subst (λ i. n < 10 ^ i) (omega arith) b, sym (append-nil (decimal n)))
-more-digits (c ∷ ds) n k a b (l, u, d) h =
-    let small : n < 10 ^ 7 = omega (arith, b, pow-le-pow-right {n = 10} (omega arith) (let q : k ≤ 7 = omega arith in q)) in
-    let next : n * 10 + (c - 48) < 10 ^ suc k = rw (pow-suc 10 k) (omega arith) in
-    let (m, e, f, g) = more-digits ds (n * 10 + (c - 48)) (suc k) (omega arith) next d (omega arith) in
-    let same : 48 + (c - 48) ≡ c = omega arith in (
-      m,
-      e,
-      subst (λ i. m < 10 ^ i) (omega arith) f,
-      g ∙ ap (λ u. u ++ ds) (decimal-more n (c - 48) a (omega arith) (omega arith))
-          ∙ append-assoc (decimal n) ((48 + (c - 48)) ∷ []) ds ∙ ap (λ b. decimal n ++ (b ∷ ds)) same,
-    )
-
-pub number-exactly : (l : List ℕ) → ((n : ℕ) × IsNumber n × (l ≡ numberBytes n)) ↔ OneToEight l
-unfolding IsNumber numberBytes
-number-exactly l = (λ (n, h, e). subst OneToEight (sym e) (written n h (decimal n) refl), back l)
-  where
-    written : (n : ℕ) → IsNumber n → (ds : List ℕ) → decimal n ≡ ds → OneToEight (decimal n)
-    written n h [] e = absurd (subst (Leads n) e (decimal-leads n (omega (arith, h .1))))
-    written n h (b ∷ bs) e =
-        let lead : 48 < b = subst (Leads n) e (decimal-leads n (omega (arith, h .1))) (h .0) in
-        record {
-          some = rw e (omega arith);
-          few = few-digits 7 n (omega arith) (h .1);
-          digits = decimal-digits n;
-          leads = rw e lead;
-        }
-
-    back : (l : List ℕ) → OneToEight l → (n : ℕ) × IsNumber n × (l ≡ numberBytes n)
-    back [] o = absurd (omega (arith, o .some))
-    back (b ∷ bs) o =
-        let (l, u, d) = o .digits in
-        let (m, e, f, g) = more-digits bs (b - 48) 1 (omega (arith, o .leads)) (omega arith) d (omega (arith, o .few)) in
-        let same : 48 + (b - 48) ≡ b = omega arith in (
-          m,
-          (
-            e,
-            omega (
-              arith,
-              f,
-              pow-le-pow-right {n = 10} (omega arith) (let q : 1 + length bs ≤ 8 = omega (arith, o .few) in q),
-            ),
-          ),
-          sym (g ∙ ap (λ v. v ++ bs) (decimal-one (b - 48) (omega arith) ∙ ap (λ c. c ∷ []) same)),
-        )

@@ -2,6 +2,18 @@
 // a register is written, and which texts are accepted or refused; proofs/ that every text is one or the other, once. Reading a
 // text is left to `register_read`.
 
+// A number of an acquisition, such as 1987.14: the year, and the serial within it.
+pub struct YearSerial {
+    pub year: u32,
+    pub serial: u32,
+}
+
+// A number has one of two forms.
+pub enum Form {
+    Plain(u32),
+    Year(YearSerial),
+}
+
 pub enum Mark {
     Read,
     Unread,

@@ -4,8 +4,9 @@
 //
 // `links` has eight slots for each of 1,024 places and for the root, 8 · 1,025 = 8,200 entries of 16 bits: slot 8 · p + d leads
 // from the place p, counted from 1, on by the digit d, and 0 leads nowhere. The last digit comes first, since numbers that are
-// issued one after the other differ there. No choice of numbers makes it slow, as a hash table can be made: a number of 32 bits
-// has at most 11 digits, and so many steps are the most; no contract says so.
+// issued one after the other differ there. No choice of numbers makes it slow, as a hash table can be made: a number's code is
+// below 121,000,000, so below 8 to the 9th, and nine steps are the most (eleven for 32 bits that are nobody's); no contract says
+// so.
 use pair_chain::wide;
 ghost use mathlib.Core.Path.{_≡_};
 ghost use Prim.Native.Nat.{_≤_, _+_};

@@ -1,2 +1,3 @@
+pub mod CodeSteps
+pub mod FormSteps
 pub mod NumberSteps
-pub mod WholeField

@@ -27,14 +27,14 @@ use Rattle.register_write.proofs.PutLines.{statement-small, objection-s
 
 -- The parts are not long, and the text is one behind the other.
 module _ (nums : List ℕ) where
-  pub statements-small : (marks : List ℕ) (n : ℕ) → length (rowsTo n (statementText nums marks)) ≤ 24 * n
+  pub statements-small : (marks : List ℕ) (n : ℕ) → length (rowsTo n (statementText nums marks)) ≤ 34 * n
   statements-small marks =
-      rows-small (statementText nums marks) 24 (λ i. statement-small (getD nums i 0) (getD marks i 0))
+      rows-small (statementText nums marks) 34 (λ i. statement-small (getD nums i 0) (getD marks i 0))
 
   module _ (objectors targets : List ℕ) where
-    pub objections-small : (m : ℕ) → length (rowsTo m (objectionText nums objectors targets)) ≤ 24 * m
+    pub objections-small : (m : ℕ) → length (rowsTo m (objectionText nums objectors targets)) ≤ 34 * m
     objections-small =
-        rows-small (objectionText nums objectors targets) 24
+        rows-small (objectionText nums objectors targets) 34
         (λ k. objection-small (getD nums (getD objectors k 0) 0) (getD nums (getD targets k 0) 0))
 
     -- the line of an objection by the places of its ends

@@ -30,10 +30,10 @@ objection-length objector target =
       length-append (numberBytes target) (10 ∷ []),
     )
 
-pub statement-small : (number mark : ℕ) → length (statementBytes number mark) ≤ 24
+pub statement-small : (number mark : ℕ) → length (statementBytes number mark) ≤ 34
 statement-small number mark = omega (arith, statement-length number mark, number-small number)
 
-pub objection-small : (objector target : ℕ) → length (objectionBytes objector target) ≤ 24
+pub objection-small : (objector target : ℕ) → length (objectionBytes objector target) ≤ 34
 objection-small objector target =
     omega (arith, objection-length objector target, number-small objector, number-small target)
 

@@ -5,15 +5,16 @@ use super::text::Text;
 use crate::random::Random;
 
 /// The bytes that a line is made of, and those that are taken for them by mistake.
-const TELLING: &[u8] = b"SORU0123456789\t\n\r sour/:\0\x0b\xff\xb5";
+const TELLING: &[u8] = b"SORU0123456789.\t\n\r sour/:,-\0\x0b\xff\xb5";
 
 type Damage = fn(&mut Random, Vec<u8>) -> Vec<u8>;
 
-const DAMAGES: [Damage; 9] = [
+const DAMAGES: [Damage; 10] = [
     replace_byte,
     put_in_byte,
     lose_byte,
     replace_digit,
+    move_point,
     double_line,
     move_line,
     swap_lines,
@@ -65,6 +66,19 @@ fn replace_digit(random: &mut Random, mut bytes: Vec<u8>) -> Vec<u8> {
     if !digits.is_empty() {
         let at = digits[random.below(digits.len())];
         bytes[at] = b'0' + random.below(10) as u8;
+    }
+    bytes
+}
+
+/// A point moves past the byte beside it, to the one side or the other.
+fn move_point(random: &mut Random, mut bytes: Vec<u8>) -> Vec<u8> {
+    let last = bytes.len() - 1;
+    let places = 1..=last;
+    let points: Vec<usize> = places.filter(|at| bytes[*at] == b'.').collect();
+    if !points.is_empty() {
+        let at = points[random.below(points.len())];
+        let beside = if random.once_in(2) { at - 1 } else { at + 1 };
+        bytes.swap(at, beside.min(last));
     }
     bytes
 }

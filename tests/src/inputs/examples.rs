@@ -79,7 +79,7 @@ pub const EXAMPLES: [Example; 18] = [
     example("a blank line", "S 1 R\n\nS 2 R\n", "REFUSED 3 2\n"),
 ];
 
-const fn example(name: &'static str, text: &'static str, print: &'static str) -> Example {
+pub const fn example(name: &'static str, text: &'static str, print: &'static str) -> Example {
     Example { name, text, print }
 }
 

@@ -6,7 +6,7 @@ pub struct File {
     pub listing: &'static [u8],
 }
 
-pub const FILES: [File; 4] = [
+pub const FILES: [File; 5] = [
     File {
         name: "game",
         text: include_bytes!("../../../examples/game.txt"),
@@ -26,5 +26,10 @@ pub const FILES: [File; 4] = [
         name: "unread",
         text: include_bytes!("../../../examples/unread.txt"),
         listing: include_bytes!("../../../examples/unread.listing"),
+    },
+    File {
+        name: "acquisitions",
+        text: include_bytes!("../../../examples/acquisitions.txt"),
+        listing: include_bytes!("../../../examples/acquisitions.listing"),
     },
 ];

@@ -10,7 +10,7 @@ pub struct Mend {
     report: &'static str,
 }
 
-pub const MENDS: [Mend; 25] = [
+pub const MENDS: [Mend; 33] = [
     mend("nothing at all", "", "", ""),
     mend("a register", "S 1 R\nO 1 1\n", "S 1 R\nO 1 1\n", ""),
     mend(
@@ -151,6 +151,54 @@ pub const MENDS: [Mend; 25] = [
         "S 1 R\nS 2 R\nS 1 U\nO 1 2\n\nS 4 R\nO 9 4\nO 1 2\nO 2 1",
         "S 1 U\nS 2 R\nS 4 U\nO 1 2\n",
         "3 dropped 5\n5 dropped 3\n6 moved 4\n7 dropped 7\n8 dropped 8\n9 dropped 2\n",
+    ),
+    mend(
+        "a register with year numbers",
+        "S 1987.14 R\nS 1987 U\nS 198714 R\nO 1987.14 1987\nO 198714 1987.14\n",
+        "S 1987.14 R\nS 1987 U\nS 198714 R\nO 1987.14 1987\nO 198714 1987.14\n",
+        "",
+    ),
+    mend(
+        "a second statement of a year number",
+        "S 1987.1 R\nS 1987.10 R\nS 1987.1 R\n",
+        "S 1987.1 U\nS 1987.10 R\n",
+        "3 dropped 5\n",
+    ),
+    mend(
+        "a late year number",
+        "S 3 R\nO 2004.1 3\nS 2004.1 U\n",
+        "S 3 R\nS 2004.1 U\nO 2004.1 3\n",
+        "3 moved 4\n",
+    ),
+    mend(
+        "an unknown year number objects",
+        "S 1987 R\nS 14 R\nO 1987.14 1987\nO 14 14\n",
+        "S 1987 U\nS 14 R\nO 14 14\n",
+        "3 dropped 7\n",
+    ),
+    mend(
+        "an unknown year number is objected to",
+        "S 1987.1 R\nO 1987.1 1987.10\nO 1987.1 1987\n",
+        "S 1987.1 R\n",
+        "2 dropped 7\n3 dropped 7\n",
+    ),
+    mend(
+        "a repeat of an objection of year numbers",
+        "S 1987.1 R\nS 2099.9999 U\nO 2099.9999 1987.1\nO 1987.1 2099.9999\nO 2099.9999 1987.1\n",
+        "S 1987.1 R\nS 2099.9999 U\nO 2099.9999 1987.1\nO 1987.1 2099.9999\n",
+        "5 dropped 8\n",
+    ),
+    mend(
+        "spoiled year numbers",
+        "S 1987.01 R\nS 1987.1 R\nS 2100.1 R\nS 1987.1. R\nO 1987. 1987.1\nO 1987.1 1987,1\n",
+        "S 1987.1 R\n",
+        "1 dropped 3\n3 dropped 3\n4 dropped 3\n5 dropped 3\n6 dropped 3\n",
+    ),
+    mend(
+        "a year number without an end",
+        "S 1987.1 R\nO 1987.1 1987.1",
+        "S 1987.1 R\n",
+        "2 dropped 2\n",
     ),
 ];
 

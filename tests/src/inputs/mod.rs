@@ -1,7 +1,7 @@
 //! What is handed to the library: small registers in full, random ones of many shapes, the examples
-//! of document 01 and of the folder examples, as lists and as texts; damaged texts; what fuzzing
-//! has kept; registers that are edited, and sheets to be updated; texts to be mended; and rooms of
-//! many lengths.
+//! of document 01 and of the folder examples, and some with year numbers, as lists and as texts;
+//! damaged texts; what fuzzing has kept; registers that are edited, and sheets to be updated; texts
+//! to be mended; and rooms of many lengths.
 
 pub mod corpus;
 pub mod crafted;
@@ -25,3 +25,4 @@ pub mod spoiled;
 pub mod text;
 pub mod worn;
 pub mod written;
+pub mod years;

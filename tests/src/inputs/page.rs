@@ -4,11 +4,12 @@ use super::draft::Draft;
 use super::text::{lines_of, Text};
 use super::{lists::Lists, numbers};
 use crate::random::Random;
+use crate::second::number::Number;
 
 #[derive(Clone)]
 pub struct Page {
     /// the numbers of the statements in listed order
-    pub numbers: Vec<u32>,
+    pub numbers: Vec<Number>,
     /// the statement lines, then the objection lines
     pub lines: Vec<String>,
 }
@@ -57,9 +58,9 @@ impl Page {
     }
 
     /// A number that is not issued here.
-    pub fn unissued(&self, random: &mut Random) -> u32 {
+    pub fn unissued(&self, random: &mut Random) -> Number {
         loop {
-            let number = numbers::different(random, 1, 8)[0];
+            let number = numbers::any(random);
             if !self.numbers.contains(&number) {
                 return number;
             }

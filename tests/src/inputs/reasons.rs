@@ -6,7 +6,7 @@ use super::written::{of_01, written, Written};
 /// The reason for each statement, in listed order.
 pub type Reasons = Written<&'static str>;
 
-pub const REASONS: [Reasons; 12] = [
+pub const REASONS: [Reasons; 13] = [
     of_01(
         "felling in three turns",
         &[
@@ -124,6 +124,18 @@ pub const REASONS: [Reasons; 12] = [
             "3 stands 2\n1 2 felling 1\n2 3 delaying 2\n",
             "2 falls 1\n1 2 felling 1\n",
             "1 stands 0\n",
+        ],
+    ),
+    written(
+        "numbers of both forms, of which 1987.1 and 1987 are not 1987.14",
+        "S 1987.14 R\nS 1987.1 R\nS 1987 R\nS 198714 R\n\
+         O 1987.1 1987.14\nO 1987 1987.1\nO 198714 1987\n",
+        &[
+            "1987.14 falls 3\n1987.1 1987.14 felling 3\n1987 1987.1 delaying 2\n\
+             198714 1987 felling 1\n",
+            "1987.1 stands 2\n1987 1987.1 delaying 2\n198714 1987 felling 1\n",
+            "1987 falls 1\n198714 1987 felling 1\n",
+            "198714 stands 0\n",
         ],
     ),
 ];

@@ -2,6 +2,7 @@
 //! so anything can be put into one of these.
 
 use super::lists::Lists;
+use crate::second::number::Number;
 use std::fmt;
 
 /// How many bytes of a text are shown where a test failed.
@@ -23,7 +24,7 @@ impl Text {
     }
 
     /// A sound register, its statements under these numbers in this order.
-    pub fn written(lists: &Lists, numbers: &[u32]) -> Self {
+    pub fn written(lists: &Lists, numbers: &[Number]) -> Self {
         Text::of_lines(&lines_of(lists, numbers))
     }
 
@@ -34,9 +35,9 @@ impl Text {
 }
 
 /// The lines of a sound register: its statements, then its objections.
-pub fn lines_of(lists: &Lists, numbers: &[u32]) -> Vec<String> {
+pub fn lines_of(lists: &Lists, numbers: &[Number]) -> Vec<String> {
     let mark = |mark: &u8| if *mark == 1 { 'U' } else { 'R' };
-    let statement = |(number, unread): (&u32, &u8)| format!("S\t{number}\t{}", mark(unread));
+    let statement = |(number, unread): (&Number, &u8)| format!("S\t{number}\t{}", mark(unread));
     let objection = |(objector, target): (usize, usize)| {
         let (objector, target) = (numbers[objector], numbers[target]);
         format!("O\t{objector}\t{target}")

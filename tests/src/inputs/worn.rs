@@ -7,7 +7,7 @@ use crate::random::Random;
 
 type Wear = fn(&mut Random, &mut Vec<String>);
 
-const WEARS: [Wear; 9] = [
+const WEARS: [Wear; 10] = [
     issue_again,
     object_again,
     lose_line,
@@ -15,12 +15,13 @@ const WEARS: [Wear; 9] = [
     move_line,
     change_number,
     change_number,
+    lose_point,
     put_in_blank,
     spoil_line,
 ];
 
 /// What comes behind a sound line, and spoils it.
-const TAILS: [&str; 5] = ["\t", "\r", " ", "0000000", "\tR"];
+const TAILS: [&str; 6] = ["\t", "\r", " ", "0000000", "\tR", "."];
 
 /// The page after so many of these, and one in four texts without its last byte.
 pub fn worn(random: &mut Random, page: &Page, count: usize) -> Text {
@@ -72,14 +73,20 @@ fn move_line(random: &mut Random, lines: &mut Vec<String>) {
     put_in(random, lines, line);
 }
 
-/// The first digit of a number becomes another one: most are then unknown.
+/// The last digit of a number becomes another one: most are then unknown.
 fn change_number(random: &mut Random, lines: &mut Vec<String>) {
     let (at, digit) = (random.below(lines.len()), random.between(1, 9));
     let fields: Vec<&str> = lines[at].split('\t').collect();
     if let [kind, number, last] = fields[..] {
-        let rest = number.get(1..).unwrap_or_default();
-        lines[at] = format!("{kind}\t{digit}{rest}\t{last}");
+        let rest = &number[..number.len().saturating_sub(1)];
+        lines[at] = format!("{kind}\t{rest}{digit}\t{last}");
     }
+}
+
+/// The first point of a line is typed as a comma, or left out: then a plain number may be left.
+fn lose_point(random: &mut Random, lines: &mut Vec<String>) {
+    let (at, left) = (random.below(lines.len()), ["", ","][random.below(2)]);
+    lines[at] = lines[at].replacen('.', left, 1);
 }
 
 fn put_in_blank(random: &mut Random, lines: &mut Vec<String>) {

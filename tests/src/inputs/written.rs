@@ -2,6 +2,7 @@
 //! of document 01 that have statements, and some more. Tabs are shown as spaces, as they are in 01.
 
 use super::examples::Example;
+use super::numbers::written_as;
 use super::text::Text;
 
 /// What is asked of one statement: its line of argument, which it begins itself, and the answers to
@@ -20,7 +21,7 @@ pub struct Written<R: 'static> {
     pub rows: &'static [R],
 }
 
-pub const WRITTEN: [Written<Row>; 16] = [
+pub const WRITTEN: [Written<Row>; 18] = [
     of_01("one read", &[row("1", "1111111")]),
     of_01("one unread", &[row("1", "0000000")]),
     of_01("one read that objects to itself", &[row("1", "0000000")]),
@@ -130,6 +131,27 @@ pub const WRITTEN: [Written<Row>; 16] = [
             row("1", "1111111"),
         ],
     ),
+    written(
+        "a line with numbers of both forms",
+        "S 1987.14 R\nS 1987 R\nS 2099.9999 R\nS 1000.1 U\nO 1987 2099.9999\nO 1987.14 1987\n\
+         O 2099.9999 1000.1\n",
+        &[
+            row("1987.14", "1111111"),
+            row("1987 1987.14", "0222222"),
+            row("2099.9999 1987 1987.14", "0011111"),
+            row("1000.1 2099.9999 1987 1987.14", "0002222"),
+        ],
+    ),
+    written(
+        "the earliest listed, which is a year number and has the greatest code",
+        "S 1987.14 R\nS 5 R\nS 1987.1 R\nS 7 R\nO 5 7\nO 1987.1 7\nO 1987.14 7\n",
+        &[
+            row("1987.14", "1111111"),
+            row("5", "1111111"),
+            row("1987.1", "1111111"),
+            row("7 1987.14", "0222222"),
+        ],
+    ),
 ];
 
 const fn row(line: &'static str, within: &'static str) -> Row {
@@ -153,10 +175,10 @@ pub const fn written<R>(name: &'static str, text: &'static str, rows: &'static [
 }
 
 impl Row {
-    /// The numbers on the line.
+    /// The codes of the numbers on the line.
     pub fn line(&self) -> Vec<u32> {
-        let number = |word: &str| word.parse().expect("a number");
-        self.line.split(' ').map(number).collect()
+        let words = self.line.split(' ');
+        words.map(|word| written_as(word).code()).collect()
     }
 
     /// The answers to the exercise, the first with 0 turns.

@@ -1,5 +1,5 @@
-//! The library's calls. Each answers one question about a register that is handed over as lists, in
-//! one of two forms, or as a text.
+//! The library's calls. Most answer one question about a register that is handed over as lists, in
+//! one of two forms, or as a text; two read and write a number by itself.
 
 use super::array::{Array, Room};
 use crate::inputs::lists::Lists;
@@ -61,6 +61,10 @@ pub const SHEET_UPDATE: u32 = 27;
 /// The number by which caller.c knows mending. It is no question either: a text that is no register
 /// is answered too.
 pub const MEND: u32 = 28;
+
+/// The numbers by which caller.c knows the reading of a number by itself, and the writing.
+pub const NUMBER: u32 = 40;
+pub const NUMBER_TEXT: u32 = 41;
 
 const fn list_call(name: &'static str, number: u32, form: Form, question: Question) -> ListCall {
     ListCall {

@@ -3,16 +3,17 @@
 
 use super::array::{Array, Room};
 use super::call::{any_sheet, of_longest, room_widths, rooms_for_mending, rooms_with, text_input};
-use super::call::{ListCall, TextCall, LIST_CALLS, MEND, SHEET_UPDATE};
+use super::call::{ListCall, TextCall, LIST_CALLS, MEND, NUMBER, NUMBER_TEXT, SHEET_UPDATE};
 use super::caller::{Caller, Request};
 use crate::inputs::handed::Handed;
 use crate::inputs::lists::Lists;
 use crate::inputs::rooms;
 use crate::inputs::sheet::Sheet;
 use crate::inputs::text::Text;
-use crate::second::answer::Answer;
+use crate::second::answer::{bytes_of, Answer};
 use crate::second::expected::{Asked, Expected, Question};
 use crate::second::mend::Mending;
+use crate::second::number;
 
 pub struct Session {
     caller: Caller,
@@ -130,6 +131,28 @@ impl Session {
         let lent = rooms_for_mending(rooms[0], rooms[1]);
         self.compare(request, text_input(text), lent, &answer)
             .map_err(|what| format!("mend, {text}; rooms {rooms:?}: {what}"))
+    }
+
+    /// Holds the reading of a number by itself.
+    pub fn hold_number(&mut self, field: &[u8]) -> Result<(), String> {
+        let request = Request {
+            call: NUMBER,
+            asked: (0, 0),
+        };
+        let input = vec![Array::input(1, bytes_of(field))];
+        self.compare(request, input, Vec::new(), &number::reading(field))
+            .map_err(|what| format!("number, \"{}\": {what}", field.escape_ascii()))
+    }
+
+    /// Holds the writing of the number with this code into this room.
+    pub fn hold_number_text(&mut self, code: u32, room: Room) -> Result<(), String> {
+        let request = Request {
+            call: NUMBER_TEXT,
+            asked: (code, 0),
+        };
+        let answer = number::writing(code, room.length());
+        self.compare(request, Vec::new(), vec![Array::room(1, room)], &answer)
+            .map_err(|what| format!("number_text, {code}; room {room:?}: {what}"))
     }
 
     fn hold_asked(

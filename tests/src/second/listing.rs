@@ -2,6 +2,7 @@
 //! the reason for a statement, which has some of the same rows, or the one line of a refusal.
 
 use super::expected::{Expected, Question};
+use super::number;
 use super::refusals::Refusal;
 use super::verdict::NO_LENGTH;
 
@@ -40,23 +41,28 @@ pub fn listing(expected: &Expected) -> String {
 /// The row of the statement at this place.
 pub fn statement(expected: &Expected, place: usize) -> String {
     let verdict = expected.verdicts[place];
-    let number = expected.register.numbers[place];
+    let number = number(expected, place);
     let label = LABELS[verdict.label() as usize];
     format!("{number}\t{label}\t{}\n", length(verdict.length()))
 }
 
 /// The row of the objection at this entry.
 pub fn objection(expected: &Expected, entry: usize) -> String {
-    let (lists, numbers) = (&expected.register.lists, &expected.register.numbers);
+    let lists = &expected.register.lists;
     let (objector, target) = (lists.objectors[entry], lists.targets[entry]);
     let (kind, turns) = expected.kinds[entry];
     format!(
         "{}\t{}\t{}\t{}\n",
-        numbers[objector as usize],
-        numbers[target as usize],
+        number(expected, objector as usize),
+        number(expected, target as usize),
         KINDS[kind as usize],
         length(turns)
     )
+}
+
+/// The number of the statement at this place, as it is written.
+fn number(expected: &Expected, place: usize) -> String {
+    number::written(expected.register.numbers[place]).expect("the code of a number")
 }
 
 fn length(length: u32) -> String {

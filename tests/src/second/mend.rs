@@ -2,6 +2,7 @@
 //! objections'. What is kept is put down anew, and the report is read off the fates.
 
 use super::answer::{bytes_of, is_short, Answer};
+use super::number::Number;
 use super::refusals::{placeless, Refusal, MOST_OBJECTIONS, MOST_STATEMENTS, SHORT_ROOM};
 use super::register::MOST_BYTES;
 use super::text::{self, Line};
@@ -51,10 +52,10 @@ pub struct Mending {
 /// What is kept so far: each statement's number and whether it is unread, and each objection.
 struct Kept {
     most: Most,
-    statements: Vec<(u32, bool)>,
-    places: HashMap<u32, usize>,
-    objections: Vec<(u32, u32)>,
-    objected: HashSet<(u32, u32)>,
+    statements: Vec<(Number, bool)>,
+    places: HashMap<Number, usize>,
+    objections: Vec<(Number, Number)>,
+    objected: HashSet<(Number, Number)>,
 }
 
 impl Mending {
@@ -153,7 +154,7 @@ impl Kept {
         }
     }
 
-    fn statement(&mut self, number: u32, unread: bool, late: bool) -> Fate {
+    fn statement(&mut self, number: Number, unread: bool, late: bool) -> Fate {
         if self.leave_unread(number) {
             return Fate::Dropped(SECOND);
         }
@@ -168,8 +169,8 @@ impl Kept {
         }
     }
 
-    fn objection(&mut self, objector: u32, target: u32) -> Fate {
-        let known = |number: u32| self.places.contains_key(&number);
+    fn objection(&mut self, objector: Number, target: Number) -> Fate {
+        let known = |number: Number| self.places.contains_key(&number);
         if !known(target) {
             return Fate::Dropped(UNKNOWN);
         }
@@ -190,7 +191,7 @@ impl Kept {
     }
 
     /// Marks the statement with this number as unread, and answers whether there is one.
-    fn leave_unread(&mut self, number: u32) -> bool {
+    fn leave_unread(&mut self, number: Number) -> bool {
         let place = self.places.get(&number);
         if let Some(place) = place {
             self.statements[*place].1 = true;

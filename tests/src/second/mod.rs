@@ -9,6 +9,7 @@ pub mod game;
 pub mod kinds;
 pub mod listing;
 pub mod mend;
+pub mod number;
 pub mod reason;
 pub mod refusals;
 pub mod register;

@@ -7,6 +7,9 @@ use std::collections::HashSet;
 pub const MOST_STATEMENTS: usize = 1_024;
 pub const MOST_OBJECTIONS: usize = 4_096;
 
+/// The refusal of what is no number, of a number by itself. It has no place.
+pub const NO_NUMBER: Refusal = placeless(3);
+
 /// The refusals of what is asked, in 01's order: a statement that is not on the register, more than
 /// 6 turns, an old sheet that is not one of so many statements, and a room that is shorter than the
 /// answer. They have no place.

@@ -2,6 +2,7 @@
 //! Each row says by itself whether a line has its fault, by what comes before that line, whatever
 //! else is wrong. The first line that has a fault is refused, for the first fault in 01's order.
 
+use super::number::Number;
 use super::refusals::{placeless, Refusal, MOST_OBJECTIONS, MOST_STATEMENTS};
 use super::text::{self, Line};
 use crate::inputs::lists::Lists;
@@ -9,8 +10,8 @@ use std::collections::HashMap;
 
 pub const MOST_BYTES: usize = 65_535;
 
-/// A register that was accepted: the numbers of its statements in listed order, and the rest by
-/// places.
+/// A register that was accepted: the numbers of its statements in listed order, each by its code, and
+/// the rest by places.
 #[derive(Default)]
 pub struct Register {
     pub numbers: Vec<u32>,
@@ -33,8 +34,8 @@ struct Page {
     /// for each line, how many of its kind there are up to it and with it
     counts: Vec<usize>,
     first_objection: usize,
-    issued: HashMap<u32, usize>,
-    objected: HashMap<(u32, u32), usize>,
+    issued: HashMap<Number, usize>,
+    objected: HashMap<(Number, Number), usize>,
 }
 
 pub fn read(text: &[u8]) -> Result<Register, Refusal> {
@@ -86,7 +87,7 @@ impl Page {
 
     /// The first of 01's rows that this line has the fault of.
     fn fault(&self, at: usize) -> Option<u32> {
-        let issued = |number: u32| self.issued.get(&number).is_some_and(|line| *line < at);
+        let issued = |number: Number| self.issued.get(&number).is_some_and(|line| *line < at);
         let rows = match self.lines[at] {
             None => vec![(3, true)],
             Some(Line::Statement { number, .. }) => vec![
@@ -107,12 +108,12 @@ impl Page {
     /// The register of a page without faults. Statements come first, so that the line on which a
     /// number is issued, counted from 0, is its place.
     fn register(&self) -> Register {
-        let place = |number: u32| self.issued[&number] as u32;
+        let place = |number: Number| self.issued[&number] as u32;
         let (mut numbers, mut marks, mut pairs) = (Vec::new(), Vec::new(), Vec::new());
         for line in self.lines.iter().flatten() {
             match *line {
                 Line::Statement { number, unread } => {
-                    numbers.push(number);
+                    numbers.push(number.code());
                     marks.push(u8::from(unread));
                 }
                 Line::Objection { objector, target } => {

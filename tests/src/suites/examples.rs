@@ -1,21 +1,24 @@
-//! Every example at the edges of document 01, and every file of the folder examples: the second
-//! solver must print what is written out, and the library must give what the second solver gives,
-//! for texts and for lists.
+//! Every example at the edges of document 01, those with year numbers, and every file of the folder
+//! examples: the second solver must print what is written out, and the library must give what the
+//! second solver gives, for texts and for lists.
 
 use super::Test;
 use crate::inputs::examples::{Example, EXAMPLES};
 use crate::inputs::files::{File, FILES};
 use crate::inputs::text::Text;
+use crate::inputs::years::YEARS;
 use crate::library::session::Session;
 use crate::second::expected::{Expected, Question};
 use crate::second::listing;
 
 pub fn tests() -> Vec<Test> {
-    let test = |example: &'static Example| {
-        let name = format!("example of 01: {}", example.name);
-        Test::new(name, move |session| {
-            hold(session, &example.text(), &example.print())
-        })
+    let test = |origin: &'static str| {
+        move |example: &'static Example| {
+            let name = format!("{origin}: {}", example.name);
+            Test::new(name, move |session| {
+                hold(session, &example.text(), &example.print())
+            })
+        }
     };
     let large = [
         Test::new("example of 01: 1,024 statements", most_statements),
@@ -27,9 +30,10 @@ pub fn tests() -> Vec<Test> {
             hold(session, &Text(file.text.to_vec()), file.listing)
         })
     };
-    let small = EXAMPLES.iter().map(test);
+    let small = EXAMPLES.iter().map(test("example of 01"));
+    let years = YEARS.iter().map(test("example with year numbers"));
     let files = FILES.iter().map(file);
-    small.chain(large).chain(files).collect()
+    small.chain(large).chain(years).chain(files).collect()
 }
 
 /// Holds every call on the text, and on its register as lists.

@@ -7,6 +7,7 @@ mod examples;
 mod limits;
 mod meaning;
 mod mending;
+mod numbers;
 mod order;
 mod reasons;
 mod refusals;
@@ -48,6 +49,7 @@ pub fn all() -> Vec<Test> {
         rooms::tests(),
         refusals::tests(),
         order::tests(),
+        numbers::tests(),
         texts::tests(),
         asked::tests(),
         reasons::tests(),

@@ -51,7 +51,7 @@ fn of_texts(session: &mut Session) -> Result<(), String> {
 
 fn first_number(text: &Text) -> u32 {
     let number = |line| match line {
-        Some(Line::Statement { number, .. }) => Some(number),
+        Some(Line::Statement { number, .. }) => Some(number.code()),
         _ => None,
     };
     let mut numbers = text::lines(&text.0).into_iter().filter_map(number);
@@ -90,7 +90,8 @@ fn hold_reasons(
     known: u32,
 ) -> Result<(), String> {
     let expected = Expected::of_text(text);
-    for (statement, unknown) in [(known, 0), (0, 14), (100_000_000, 14), (UNKNOWN, 14)] {
+    let nobodys = [0, 100_000_000, 119_870_000, UNKNOWN].map(|code| (code, 14));
+    for (statement, unknown) in [(known, 0)].into_iter().chain(nobodys) {
         for (room, short) in [(Room::Of(131_072), 0), (Room::Of(3), 10), (Room::Null, 10)] {
             let asked = Question::Reason { statement };
             refused_as(&expected, asked, &[room], [refusal, unknown, short])?;

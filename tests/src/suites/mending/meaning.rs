@@ -10,6 +10,7 @@ use crate::random::Random;
 use crate::second::mend::Fate::{self, Dropped, Kept, Moved};
 use crate::second::mend::{Mending, Most, OBJECTION_TOO_MANY, REPEATED};
 use crate::second::mend::{SECOND, SPOILED, STATEMENT_TOO_MANY, UNENDED, UNKNOWN};
+use crate::second::number::Number;
 use crate::second::text::{self, Line};
 
 /// How many longer texts are tried.
@@ -93,7 +94,7 @@ impl<'a> Said<'a> {
     }
 
     /// The number of a statement that stays.
-    fn number(&self, at: usize) -> Option<u32> {
+    fn number(&self, at: usize) -> Option<Number> {
         match self.lines[at] {
             Some(Line::Statement { number, .. }) if self.stays(at) => Some(number),
             _ => None,
@@ -101,7 +102,7 @@ impl<'a> Said<'a> {
     }
 
     /// The two numbers of an objection that stays.
-    fn pair(&self, at: usize) -> Option<(u32, u32)> {
+    fn pair(&self, at: usize) -> Option<(Number, Number)> {
         match self.lines[at] {
             Some(Line::Objection { objector, target }) if self.stays(at) => {
                 Some((objector, target))
@@ -110,7 +111,7 @@ impl<'a> Said<'a> {
         }
     }
 
-    fn is_unknown(&self, number: u32) -> bool {
+    fn is_unknown(&self, number: Number) -> bool {
         (0..self.lines.len()).all(|at| self.number(at) != Some(number))
     }
 
@@ -120,8 +121,8 @@ impl<'a> Said<'a> {
             let mut holding = causes.iter().filter(|(_, holds)| *holds);
             holding.next().map_or(stays, |(cause, _)| Dropped(*cause))
         };
-        let numbers: Vec<u32> = (0..at).filter_map(|one| self.number(one)).collect();
-        let pairs: Vec<(u32, u32)> = (0..at).filter_map(|one| self.pair(one)).collect();
+        let numbers: Vec<Number> = (0..at).filter_map(|one| self.number(one)).collect();
+        let pairs: Vec<(Number, Number)> = (0..at).filter_map(|one| self.pair(one)).collect();
         match self.lines[at] {
             None if at == self.ended => Dropped(UNENDED),
             None => Dropped(SPOILED),
@@ -148,7 +149,7 @@ impl<'a> Said<'a> {
 
     /// Whether this line leaves the statement with this number unread: its own by its mark, others
     /// by being dropped.
-    fn leaves_unread(&self, at: usize, number: u32) -> bool {
+    fn leaves_unread(&self, at: usize, number: Number) -> bool {
         match self.lines[at] {
             Some(Line::Statement {
                 number: own,
@@ -167,11 +168,11 @@ impl<'a> Said<'a> {
 
     fn text(&self) -> Text {
         let lines = 0..self.lines.len();
-        let statement = |number: u32| {
+        let statement = |number: Number| {
             let unread = lines.clone().any(|at| self.leaves_unread(at, number));
             format!("S\t{number}\t{}", if unread { 'U' } else { 'R' })
         };
-        let objection = |(objector, target): (u32, u32)| format!("O\t{objector}\t{target}");
+        let objection = |(objector, target): (Number, Number)| format!("O\t{objector}\t{target}");
         let statements = lines
             .clone()
             .filter_map(|at| self.number(at))

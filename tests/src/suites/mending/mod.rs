@@ -4,6 +4,7 @@
 //! beforehand.
 
 mod examples;
+mod fields;
 mod limits;
 mod meaning;
 mod registers;
@@ -28,6 +29,7 @@ pub fn tests() -> Vec<Test> {
         short::tests(),
         registers::tests(),
         worn::tests(),
+        fields::tests(),
         limits::tests(),
         rooms::tests(),
         restored::tests(),

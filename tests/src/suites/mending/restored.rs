@@ -13,6 +13,7 @@ use crate::library::session::Session;
 use crate::random::Random;
 use crate::second::expected::Expected;
 use crate::second::mend::{Fate, UNKNOWN};
+use crate::second::number::Number;
 use crate::second::refusals::{MOST_OBJECTIONS, MOST_STATEMENTS};
 use crate::second::rounds;
 use crate::second::text::{self, Line};
@@ -132,9 +133,9 @@ fn is_overturned(before: Verdict, after: Verdict) -> bool {
 /// were dropped: the numbers, the listed ones first, the marks of those, and all objections, each
 /// once.
 struct Found {
-    numbers: Vec<u32>,
+    numbers: Vec<Number>,
     marks: Vec<u8>,
-    objections: Vec<(u32, u32)>,
+    objections: Vec<(Number, Number)>,
 }
 
 impl Found {
@@ -162,7 +163,7 @@ impl Found {
         Ok(found)
     }
 
-    fn put_back(&mut self, objector: u32, target: u32) -> Result<(), String> {
+    fn put_back(&mut self, objector: Number, target: Number) -> Result<(), String> {
         let listed = self.marks.len();
         if self.numbers[..listed].contains(&objector) || !self.numbers[..listed].contains(&target) {
             return Err(format!("{objector} against {target}"));
@@ -179,8 +180,8 @@ impl Found {
     /// The register with all of it. Those that were not listed get random marks, and objections by
     /// any.
     fn restored(&self, random: &mut Random) -> Lists {
-        let places: HashMap<u32, u32> = self.numbers.iter().copied().zip(0..).collect();
-        let place = |(objector, target): &(u32, u32)| (places[objector], places[target]);
+        let places: HashMap<Number, u32> = self.numbers.iter().copied().zip(0..).collect();
+        let place = |(objector, target): &(Number, Number)| (places[objector], places[target]);
         let mut pairs: Vec<(u32, u32)> = self.objections.iter().map(place).collect();
         let (listed, all) = (self.marks.len(), self.numbers.len());
         let unread = random.between(1, 6);

@@ -7,9 +7,20 @@ use crate::inputs::text::Text;
 use crate::library::session::Session;
 use crate::random::Random;
 
-/// The lines, in which tabs are shown as spaces. 4 is on no statement line, and 3 is on one of them.
+/// The lines, in which tabs are shown as spaces. 1987.10 is on no statement line, and 1987.1 is on one
+/// of them.
 const LINES: [&str; 12] = [
-    "S 1 R", "S 1 U", "S 2 R", "S 3 R", "O 1 2", "O 2 1", "O 1 1", "O 3 2", "O 2 3", "O 4 3", "",
+    "S 1 R",
+    "S 1 U",
+    "S 2 R",
+    "S 1987.1 R",
+    "O 1 2",
+    "O 2 1",
+    "O 1 1",
+    "O 1987.1 2",
+    "O 2 1987.1",
+    "O 1987.10 1987.1",
+    "",
     "O 1",
 ];
 

@@ -1,11 +1,13 @@
 //! Reasons that are written out: the second solver must print them, and so must the library. Then
-//! every statement of the examples of document 01 and of the folder examples.
+//! every statement of the examples of document 01, of those with year numbers and of the folder
+//! examples.
 
 use super::{hold_reasons, Test};
 use crate::inputs::examples::{Example, EXAMPLES};
 use crate::inputs::files::{File, FILES};
 use crate::inputs::reasons::{Reasons, REASONS};
 use crate::inputs::text::Text;
+use crate::inputs::years::YEARS;
 use crate::library::session::Session;
 use crate::second::expected::Expected;
 
@@ -14,9 +16,11 @@ pub fn tests() -> Vec<Test> {
         let name = format!("reasons, written out: {}", reasons.name);
         Test::new(name, move |session| hold_written(session, reasons))
     };
-    let example = |example: &'static Example| {
-        let name = format!("reasons, example of 01: {}", example.name);
-        Test::new(name, move |session| hold(session, &example.text()))
+    let example = |origin: &'static str| {
+        move |example: &'static Example| {
+            let name = format!("reasons, {origin}: {}", example.name);
+            Test::new(name, move |session| hold(session, &example.text()))
+        }
     };
     let file = |file: &'static File| {
         let name = format!("reasons, example file: {}", file.name);
@@ -25,7 +29,8 @@ pub fn tests() -> Vec<Test> {
         })
     };
     let all = REASONS.iter().map(written);
-    all.chain(EXAMPLES.iter().map(example))
+    all.chain(EXAMPLES.iter().map(example("example of 01")))
+        .chain(YEARS.iter().map(example("example with year numbers")))
         .chain(FILES.iter().map(file))
         .collect()
 }

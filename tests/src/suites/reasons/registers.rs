@@ -41,7 +41,7 @@ fn hold_small(session: &mut Session) -> Result<(), String> {
             let numbers = numbers::fitting(&mut random, &lists);
             let text = Text::written(&lists, &numbers);
             let expected = Expected::of_text(&text);
-            hold_reasons(session, &text, &expected, &numbers)?;
+            hold_reasons(session, &text, &expected, &expected.register.numbers)?;
             hold_rooms(session, &mut random, &text, &expected)?;
         }
     }
@@ -70,12 +70,13 @@ fn hold_shape(session: &mut Session, shape: &Shape) -> Result<(), String> {
     for (count, (most_statements, pairs), asked) in SIZES {
         for _ in 0..count {
             let lists = shape.up_to(&mut random, most_statements, pairs);
-            let mut numbers = numbers::fitting(&mut random, &lists);
+            let numbers = numbers::fitting(&mut random, &lists);
             let text = Text::written(&lists, &numbers);
             let expected = Expected::of_text(&text);
-            random.shuffle(&mut numbers);
-            numbers.truncate(asked);
-            hold_reasons(session, &text, &expected, &numbers)?;
+            let mut statements = expected.register.numbers.clone();
+            random.shuffle(&mut statements);
+            statements.truncate(asked);
+            hold_reasons(session, &text, &expected, &statements)?;
         }
     }
     Ok(())

@@ -64,8 +64,8 @@ fn hold_days(
     days: usize,
     met: &mut Met,
 ) -> Result<(), String> {
-    // of few digits, so that the text has space for more objections
-    let numbers = numbers::different(random, lists.marks.len(), 4);
+    // they leave space for more objections
+    let numbers = numbers::fitting(random, &lists);
     let mut before = Case::of(Text::written(&lists, &numbers));
     for _ in 0..days {
         let count = random.between(1, AT_ONCE);

@@ -18,6 +18,7 @@ pub fn tests() -> Vec<Test> {
         Test::new("65,535 bytes are read", most_bytes),
         Test::new("more than 65,535 bytes: refusal 1", too_many_bytes),
         Test::new("1,024 statement lines are accepted", most_statements),
+        Test::new("1,024 of the longest year numbers", longest_numbers),
         Test::new("4,096 objection lines are accepted", most_objections),
         Test::new("the 1,025th statement: refusal 6", too_many_statements),
         Test::new("the 4,097th objection: refusal 9", too_many_objections),
@@ -99,6 +100,25 @@ fn most_statements(session: &mut Session) -> Result<(), String> {
         }
     }
     Ok(())
+}
+
+/// As many statements as there may be, their numbers of nine bytes each, and as many objections as
+/// there is space for; then one more.
+fn longest_numbers(session: &mut Session) -> Result<(), String> {
+    const STATEMENTS: usize = 1_024;
+    let number = |place: usize| format!("{}.{}", 2_099 - place, 1_000 + 7 * place);
+    let statement = |place: usize| format!("S\t{}\tR", number(place));
+    let objection = |entry: usize| {
+        let target = entry % STATEMENTS;
+        let objector = (target + 1 + entry / STATEMENTS) % STATEMENTS;
+        format!("O\t{}\t{}", number(objector), number(target))
+    };
+    let objections = (MOST_BYTES - 14 * STATEMENTS) / 22;
+    let statements = (0..STATEMENTS).map(statement);
+    let mut lines: Vec<String> = statements.chain((0..objections).map(objection)).collect();
+    answered(session, &Text::of_lines(&lines), ACCEPTED)?;
+    lines.push(objection(objections));
+    answered(session, &Text::of_lines(&lines), (1, 0))
 }
 
 /// 64 statements have no more than 4,096 objections: each against each, itself included.

@@ -2,14 +2,16 @@
 //! field can be missing, doubled, misspelt or parted wrongly.
 
 use super::{answered, Test, ACCEPTED};
+use crate::inputs::numbers::written_as;
 use crate::inputs::page::{ends, Page};
 use crate::inputs::spoiled::SPOILED_LINES;
 use crate::inputs::text::Text;
 use crate::library::session::Session;
 use crate::random::Random;
 
-/// A sound text that has every kind of line, and numbers of one digit and of several.
-const SOUND: &[u8] = b"S\t12\tR\nS\t7\tU\nS\t305\tR\nO\t7\t12\nO\t305\t7\nO\t12\t12\n";
+/// A sound text that has every kind of line, numbers of one digit and of several, and a year number
+/// in every field.
+const SOUND: &[u8] = b"S\t12\tR\nS\t7\tU\nS\t1987.14\tR\nO\t7\t12\nO\t1987.14\t7\nO\t12\t1987.14\n";
 
 /// Bytes that are in no sound line: each spoils the line wherever it is.
 const STRANGE: [u8; 4] = [0, 13, 32, 255];
@@ -99,7 +101,7 @@ fn every_mark(session: &mut Session) -> Result<(), String> {
 fn page() -> Page {
     let lines = ["S\t1\tR", "S\t2\tU", "S\t3\tR", "O\t2\t3", "O\t3\t3"];
     Page {
-        numbers: vec![1, 2, 3],
+        numbers: ["1", "2", "3"].map(written_as).to_vec(),
         lines: lines.map(String::from).to_vec(),
     }
 }

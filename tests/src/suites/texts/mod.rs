@@ -6,6 +6,7 @@ mod limits;
 mod lines;
 mod numbers;
 pub mod order;
+mod points;
 mod refusals;
 mod registers;
 mod rooms;
@@ -23,6 +24,7 @@ pub fn tests() -> Vec<Test> {
         registers::tests(),
         lines::tests(),
         numbers::tests(),
+        points::tests(),
         refusals::tests(),
         order::tests(),
         limits::tests(),

@@ -10,6 +10,7 @@ use crate::library::call::TEXT_CALLS;
 use crate::library::session::Session;
 use crate::random::Random;
 use crate::second::expected::Expected;
+use crate::second::number::Number;
 use crate::second::register::MOST_BYTES;
 
 /// Bit i of a set of faults is for the refusal i + 1.
@@ -194,7 +195,7 @@ fn last_objection_line(session: &mut Session) -> Result<(), String> {
     let page = Page::random(&mut random, 70, 4_096);
     let (end, known) = (page.lines.len(), page.numbers[3]);
     let (unknown, first) = (page.unissued(&mut random), &page.lines[70]);
-    let objection = |objector: u32, target: u32| format!("O\t{objector}\t{target}");
+    let objection = |objector: Number, target: Number| format!("O\t{objector}\t{target}");
     for line in [
         first,
         &page.lines[end - 1],

@@ -10,6 +10,7 @@ use crate::library::call::{TextCall, TEXT_CALLS};
 use crate::library::session::Session;
 use crate::random::Random;
 use crate::second::expected::Expected;
+use crate::second::number::Number;
 use crate::second::refusals::{MOST_OBJECTIONS, MOST_STATEMENTS};
 use crate::second::register;
 
@@ -69,8 +70,9 @@ fn hold_shape(session: &mut Session, shape: &Shape) -> Result<(), String> {
 fn written(random: &mut Random, lists: &Lists) -> Result<Text, String> {
     let numbers = numbers::fitting(random, lists);
     let text = Text::written(lists, &numbers);
+    let codes: Vec<u32> = numbers.into_iter().map(Number::code).collect();
     match register::read(&text.0) {
-        Ok(read) if read.numbers == numbers && read.lists == *lists => Ok(text),
+        Ok(read) if read.numbers == codes && read.lists == *lists => Ok(text),
         _ => Err(format!("{text}: the second solver reads another register")),
     }
 }

@@ -1,5 +1,6 @@
-// The public calls on one number: its code, from how it is written, and how it is written, from its code, into a lent room. Both
-// forms, the codes and the bytes are left to `register_number`; numbers in a text are read there, by no call of their own.
+// The public calls on one number: its code, from how it is written, and how it is written, from its code, into a lent room. A C
+// caller makes and prints codes by them, and the program `reason` reads its argument. Forms, codes and bytes are left to
+// `register_number`, by which texts are read and written too.
 use answer::Answer;
 use answer::Refusal;
 use register::TextFault;

@@ -4,7 +4,7 @@ use mathlib.Core.Path.{ap, refl, subst, _≡_}
 use Prim.Native.Nat.{ℕ, _<_}
 use lib.ListN.{length}
 use Rattle.register.specs.Texts.{decimal, decimalIn}
-use Rattle.register.specs.Number.{numberBytes, IsNumber}
+use Rattle.register.specs.Number.{numberBytes}
 use Rattle.register.specs.declared.TextFault.{TextFault}
 use Rattle.register.specs.declared.TextFault.the-variants.{TooLong, Unended, Spoiled, Late, Statements, Issued, Objections}
 use Rattle.register.specs.declared.TextFault.the-variants.{Unknown, Repeated}

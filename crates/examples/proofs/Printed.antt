@@ -2,7 +2,7 @@
 -- and the row is held against the printed line of that fault.
 use mathlib.Core.List.{List}
 use mathlib.Core.Logic.{inl, inr, ⊎-elim, _⊎_}
-use mathlib.Core.Path.{sym, subst, ap, _≡_, _∙_}
+use mathlib.Core.Path.{sym, subst}
 use Prim.Native.Nat.{ℕ}
 use Rattle.game.specs.Book.{any, all, bookOf}
 use Rattle.game.specs.Rules.{standsWithin, fallsWithin}
@@ -30,7 +30,7 @@ use Rattle.examples.specs.Printed.{PrintedRow, list, reason, Printing, p
 use Rattle.examples.proofs.Rows.{pass, pass-is}
 use Rattle.examples.proofs.Text.{behindLine, restFrom, guessFirst, lineCount, registerOf, same, issued, numbered, differ}
 use Rattle.examples.proofs.Text.{known, distinct, ordered, accepted, unendedTest}
-use Rattle.examples.proofs.Test.{Test, Decision, bothOf, under, eitherOf, so, bothDecided, decided, refuted, alike}
+use Rattle.examples.proofs.Test.{Test, bothOf, under, eitherOf, so, bothDecided, decided, refuted, alike}
 use Rattle.examples.proofs.Fault.{textFault, faultOf, textAccepted, onRegister, placeIn, placedThere, counted}
 use Rattle.examples.proofs.Named.{said, names, says}
 use Rattle.examples.proofs.Told.{listingOf, listing-is, reasonOf, reason-is, inside}

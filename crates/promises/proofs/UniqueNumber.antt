@@ -1,7 +1,7 @@
 -- The promises of the two calls on a number leave one answer and one content of the room, 3 and 10 are given exactly when they
 -- are due, and each call undoes the other.
 use mathlib.Core.List.{List, _++_}
-use mathlib.Core.Logic.{inl, inr, _↔_, ⊎-elim}
+use mathlib.Core.Logic.{inl, _↔_, ⊎-elim}
 use mathlib.Core.Path.{ap, refl, subst, sym, _≡_, _∙_}
 use Prim.Native.Nat.{ℕ, _≤_, _<_}
 use native.Mathlib.Omega.{arith}
@@ -18,8 +18,8 @@ use Rattle.answer.specs.declared.Answer.the-variants.{Refused, Given}
 use Rattle.answer.proofs.Rooms.{written-unique}
 use Rattle.answer.proofs.Promises.{short-once, through}
 use Rattle.answer.proofs.Inputs.{on-unique, on-refused, on-exactly}
-use Rattle.promises.specs.NumberCalls.{Names, NamesNone, IsNobodys, NumberCode, NumberText}
-use Rattle.promises.proofs.OnNumber.{written-apart, code-apart, names-once}
+use Rattle.promises.specs.NumberCalls.{Names, NumberCode, NumberText}
+use Rattle.promises.proofs.OnNumber.{written-apart, code-apart}
 
 -- the answer is the code, and no room is lent
 abbrev codeIs : ℕ → ℕ → Unit {0} → Type 0

@@ -32,7 +32,7 @@ PrintsFault text printed = (fault : TextFault) × Refuses text fault × PrintsRe
 abbrev pub Prints : (text printed : List ℕ) → Type 0
 Prints text printed = ((R : Register) × Accepts text R × IsListing R printed) ⊎ PrintsFault text printed
 
--- the reason of the statement of the register that the argument, as its number is written, names; or it names none
+-- the reason of the statement of the register that the argument names, by its number as it is written; or it names none
 abbrev pub ReasonNamed : Register → (argument printed : List ℕ) → Type 0
 ReasonNamed R argument printed = (number x : ℕ) × Names argument number × Places R number x × IsReason R x printed
 

@@ -1,10 +1,10 @@
--- Laws of a register's numbers: with `NumberForms` the one file that looks into what a number is and how it is written. Lines,
--- listings, examples and programs go by these laws; reading a number, its size and writing it are left to `register_number`.
+-- Laws of a register's numbers. Only this file and `NumberForms` look into what a number is and how it is written; lines,
+-- listings, examples and programs go by these laws. Reading a number, its size and writing it are left to `register_number`.
 use mathlib.Core.Bool.{Bool, cond, not, _&&_}
-use mathlib.Core.List.{List, append-assoc, append-nil, [], _∷_, _++_}
+use mathlib.Core.List.{List, append-nil, [], _∷_, _++_}
 use mathlib.Core.Logic.{inl, inr, _⊎_, _↔_}
 use mathlib.Core.Path.{ap, refl, subst, sym, _≡_, _∙_}
-use Prim.Native.Nat.{ℕ, suc, _+_, _-_, _*_, _/_, _%_, _≤_, _<_}
+use Prim.Native.Nat.{ℕ, _+_, _-_, _*_, _/_, _%_, _≤_, _<_}
 use native.Mathlib.Decide.{decLt}
 use native.Mathlib.Omega.{arith}
 use lib.Dec.{T, ltb, leb, eqb, ltb→lt, lt→ltb, leb→le, le→leb}
@@ -15,11 +15,10 @@ use Rattle.register.specs.Texts.{decimal}
 use Rattle.register.specs.Number.{Proper, formBytes, code, Earlier, formOf, IsNumber, numberBytes}
 use Rattle.register.specs.declared.Form.{Form}
 use Rattle.register.specs.declared.Form.the-variants.{Plain, Year}
-use Rattle.register.specs.declared.YearSerial.{YearSerial}
 use Rattle.register.proofs.Decimals.{Digits, decimal-digits, decimal-says, spell, Leads, decimal-leads}
 use Rattle.register.proofs.Digits.{few-digits, ten-digits}
 
--- The number of a code, for a code below 100,000,000 and for any other.
+-- The form of a code below 100,000,000, and of any other.
 pub plain-of : (n : ℕ) → n < 100000000 → formOf n ≡ Plain n
 plain-of n h = simp (lt-ltb n 100000000 h)
 
@@ -65,7 +64,7 @@ code-order (Year dated) (Year dated′) h h′ = (to (decLt (dated .year) (dated
     from (inl y) = omega (arith, h)
     from (inr (e, s)) = omega arith
 
--- What holds of the two forms holds of every number and its bytes.
+-- The code of a form that is proper is a number's, and is written as the form is.
 pub code-number : (form : Form) → Proper form → IsNumber (code form)
 unfolding IsNumber
 code-number form h = (form, h, refl)
@@ -74,13 +73,14 @@ pub code-bytes : (form : Form) → Proper form → numberBytes (code form) ≡ f
 unfolding numberBytes
 code-bytes form h = ap formBytes (form-of-code form h)
 
--- a plain number's are its decimals
+-- so a plain number's bytes are its decimals
 pub plain-number : (n : ℕ) → 0 < n → n < 100000000 → IsNumber n
 plain-number n h k = code-number (Plain n) (h, k)
 
 pub plain-bytes : (n : ℕ) → 0 < n → n < 100000000 → numberBytes n ≡ decimal n
 plain-bytes n h k = code-bytes (Plain n) (h, k)
 
+-- What holds of the two forms holds of every number and its bytes.
 module _ (P : ℕ → List ℕ → Type 0) (of-plain : (value : ℕ) → 0 < value → value < 100000000 → P value (decimal value))
     (of-year : (y s : ℕ) → 1000 ≤ y → y ≤ 2099 → 0 < s → s < 10000
     → P (100000000 + 10000 * y + s) (decimal y ++ (46 ∷ decimal s))) where

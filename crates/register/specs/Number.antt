@@ -35,7 +35,7 @@ Earlier (Year dated) (Plain value) = ⊥
 Earlier (Year dated) (Year dated′) =
     (dated .year < dated′ .year) ⊎ ((dated .year ≡ dated′ .year) × (dated .serial < dated′ .serial))
 
--- the number that has a code; of any other code it is no number
+-- the form of the number that has a code; for a code that is nobody's it is not proper
 abbrev pub formOf : ℕ → Form
 formOf n = cond (ltb n 100000000) (Plain n) (Year (record { year = n / 10000 - 10000; serial = n % 10000 }))
 

@@ -5,7 +5,7 @@ use Prim.Native.Nat.{ℕ, _+_, _≤_, _<_}
 use native.Mathlib.Omega.{arith}
 use lib.ListN.{length, length-append}
 use Rattle.register.specs.Texts.{decimal}
-use Rattle.register.specs.Number.{Proper, formBytes, code, formOf, IsNumber, numberBytes}
+use Rattle.register.specs.Number.{Proper, formBytes, formOf, IsNumber, numberBytes}
 use Rattle.register.specs.declared.Form.{Form}
 use Rattle.register.specs.declared.Form.the-variants.{Plain, Year}
 use Rattle.register.specs.declared.YearSerial.{YearSerial}

@@ -1,10 +1,10 @@
 -- The two forms at a place: digits were read there, and what follows them tells a plain number from a year; then which number it
 -- is by its code. How digits are read is left to `NumberSteps`.
 use mathlib.Core.List.{List, append-assoc, [], _∷_, _++_}
-use mathlib.Core.Path.{refl, ap, subst, _≡_, sym, _∙_}
-use Prim.Native.Nat.{ℕ, _+_, _≤_, _<_}
+use mathlib.Core.Path.{ap, _≡_, sym, _∙_}
+use Prim.Native.Nat.{ℕ, _+_, _≤_}
 use native.Mathlib.Omega.{arith}
-use lib.ListN.{length, drop}
+use lib.ListN.{drop}
 use Rattle.register.specs.Texts.{decimal}
 use Rattle.register.specs.Number.{Proper, formBytes, code, IsNumber, numberBytes}
 use Rattle.register.specs.declared.Form.{Form}
@@ -17,7 +17,7 @@ use Rattle.register_number.specs.declared.NumberRead.the-variants.{Value
 use Rattle.register_number.specs.declared.FormRead.the-variants.{Found, NoForm}
 use Rattle.register_number.proofs.NumberSteps.{first-byte, byte-first, second-bytes, digits-once}
 
--- neither what may stand behind a number begins with a digit, nor a point
+-- what may stand behind a number begins with no digit, nor does what stands behind a year, which is a point
 parted-first : (x : ℕ) (u r : List ℕ) → r ≡ x ∷ u → Parted r → x ≤ 10
 parted-first x u [] e h = let z : _≡_ {A = ℕ} 0 1 = cc in absurd (omega arith)
 parted-first x u (c ∷ r) e h = let z : c ≡ x = cc in omega arith

@@ -9,7 +9,7 @@ use room_write::put_word;
 ghost use mathlib.Core.Path.{_≡_};
 ghost use Prim.Native.Nat.{_≤_, _^_};
 ghost use lib.ListN.{length};
-ghost use Rattle.register.specs.Number.{Proper, code, formOf, formBytes, numberBytes};
+ghost use Rattle.register.specs.Number.{Proper, code, formOf, numberBytes};
 ghost use Rattle.room_write.specs.Writing.{RoomFor, Put};
 ghost use Rattle.register_number.specs.NumberReading.{byteAt, digitOf, DigitsAt, FormAt, NumberAt, Numbered};
 

@@ -1,7 +1,6 @@
 -- `argument_room`: no number has more than 9 bytes.
 use native.Mathlib.Omega.{arith}
 use Rattle.register.proofs.Number.{number-short}
-use borrow.Author.Needs.{needs}
 use Rattle.program_reason.proofs.argument_room.Statement.{statement}
 use Rattle.program_reason.proofs.argument_room.Tie as tie
 

@@ -1,10 +1,9 @@
 -- `put_number` puts the parts that the form has, one behind the other.
-use mathlib.Core.List.{[], _∷_, _++_, append-assoc}
-use mathlib.Core.Path.{ap, sym, subst}
+use mathlib.Core.List.{_∷_}
+use mathlib.Core.Path.{ap}
 use native.Mathlib.Omega.{arith}
 use lib.ListN.{length, length-append}
 use Rattle.register.specs.Texts.{decimal}
-use Rattle.room_write.specs.Writing.{RoomFor, Put}
 use Rattle.register_number.proofs.CodeSteps.{plain-bytes, year-bytes, year-room, year-put}
 use borrow.Author.Needs.{needs}
 use Rattle.register_number.proofs.put_number.Statement.{statement}

@@ -1,6 +1,6 @@
 // Reads a register text from standard input and prints the reason of the statement whose number is the program's one
-// argument, or the one line of a refusal. What is printed is settled by `output`, hence by the call for a reason, on which alone
-// it stands; the rest only moves bytes.
+// argument, or the one line of a refusal. What is printed is settled by `output`, hence by two calls, the one that reads a number
+// and the one for a reason, on which alone it stands; the rest only moves bytes.
 use answer::Answer;
 use libc::STDOUT_FILENO;
 use program_stream::Input;

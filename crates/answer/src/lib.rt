@@ -2,6 +2,8 @@
 // what every promise has in common, and which number and place 01's table and later requests give each refusal. Refusals of a
 // text and of lists are those of `register` and `lists`; what is refused later is a case here, so that a new number touches
 // neither. When one is given, and what a call gives, is said by the call's own promise.
+#![tactic(auto)]
+
 use lists::ListsFault;
 use register::TextFault;
 

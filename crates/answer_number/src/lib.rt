@@ -1,5 +1,7 @@
 // An answer in numbers: the number and the place of a refusal, and the two numbers that C gets. The functions that C calls are in
 // `batqemulo`.
+#![tactic(auto)]
+
 ghost use Rattle.std.specs.Prelude.{◌≡◌};
 ghost use Rattle.answer.specs.InC.{in_c};
 ghost use Rattle.answer.specs.Refusals.{refusal_number, refusal_place};

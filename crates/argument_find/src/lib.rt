@@ -4,6 +4,8 @@
 // Each step looks at the objectors of one statement only, all of them, since the earliest listed need not come first; no
 // statement comes twice, so a line takes time linear in statements and objections. The compiled recursion is as deep as the
 // line is long, at about 200 bytes a step: up to 200 KiB of stack, more than all else that a call takes; the header says so.
+#![tactic(auto)]
+
 ghost use Rattle.std.specs.Prelude.{List, ◌++◌, ◌≡◌, ◌<◌, ℕ, length, drop, get_or};
 ghost use Rattle.game.specs.Book.{book_of};
 ghost use Rattle.game.specs.Label.{Least};

@@ -1,5 +1,7 @@
 // Parts of the product by themselves, for the benchmark alone and no part of it: the solver behind the cheap checks, without the
 // search for repeats; and the checks with that search, without the solver.
+#![tactic(auto)]
+
 ghost use Rattle.std.specs.Prelude.{◌≡◌};
 ghost use Rattle.label_solve.specs.Labelled.{Solved};
 ghost use Rattle.lists.specs.Refuses.{Lists};

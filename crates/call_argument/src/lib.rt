@@ -1,6 +1,8 @@
 // The public calls for a line of argument: of handed lists, about the statement at a place and by places; of a register text,
 // about the statement of a number and by numbers. Each refuses in 01's order, and writes the line only where there is room for
 // all of it. How a line is found is left to `argument_find`, and reading and labels to the crates below.
+#![tactic(auto)]
+
 ghost use Rattle.std.specs.Prelude.{◌≤◌, ℕ, ◌<◌, length, get_or, ◌≡◌};
 ghost use Rattle.register_solve.specs.SolvedText.{Ready};
 ghost use Rattle.promises.specs.ArgumentCalls.{TextArgument, PairsArgument};

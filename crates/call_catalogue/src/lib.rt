@@ -1,6 +1,8 @@
 // The public calls between the two forms of a register: the catalogue of a text, and the old form of a catalogue. Each is read in
 // rooms of its own and written only where there is room for all of it. Reading is left to `register_read` and `catalogue_read`,
 // writing to `catalogue_write` and `register_write`.
+#![tactic(auto)]
+
 ghost use Rattle.std.specs.Prelude.{◌≤◌, length};
 ghost use Rattle.register.specs.Register.{Register, written};
 ghost use Rattle.register_read.specs.ReadState.{Made};

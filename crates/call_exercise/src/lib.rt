@@ -1,6 +1,8 @@
 // The public calls for the class exercise: of handed lists, about the statement at a place; of a register text, about the
 // statement of a number. Each refuses in 01's order. What the exercise answers is left to `exercise_ask`, and checking and
 // reading to the crates below.
+#![tactic(auto)]
+
 ghost use Rattle.register_read.specs.ReadState.{Made};
 ghost use Rattle.promises.specs.ExerciseCalls.{TextExercise, PairsExercise};
 ghost use Rattle.register.specs.Register.{Register};

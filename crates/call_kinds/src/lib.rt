@@ -1,5 +1,7 @@
 // The public call for the kinds of objections on handed lists. It checks the lists, has them solved, and writes the kind and the
 // length of each objection into the rooms; a kind itself is left to `label_kind`.
+#![tactic(auto)]
+
 ghost use Rattle.std.specs.Prelude.{◌≤◌, length};
 ghost use Rattle.game.specs.Book.{book_of};
 ghost use Rattle.game.specs.Account.{account_number, account_length};

@@ -1,6 +1,8 @@
 // The public calls for labels and lengths on handed lists: marks (0 read, 1 unread), and objectors and targets as places in the
 // mark list; or moves, with the two lists exchanged. Each checks the lists, and hands what is in order to the solver. Kinds are
 // left to `call_kinds`, and what is asked about one statement to `call_argument` and `call_exercise`.
+#![tactic(auto)]
+
 ghost use Rattle.promises.specs.LabelCalls.{PairsLabels, PairsLengths, MovesLabels, MovesLengths};
 
 use answer::{Answer, Refusal};

@@ -1,6 +1,8 @@
 // The public calls for the labels and the lengths of a whole register text. Each has the text read in rooms of its own, and the
 // solver write straight into the lent room once that is known to be long enough: so nothing is copied, and a refused text costs
 // no room for labels. The listing is left to `call_listing`.
+#![tactic(auto)]
+
 ghost use Rattle.game.specs.Account.{account_number, account_length};
 ghost use Rattle.lists.specs.Handed.{Handed};
 ghost use Rattle.promises.specs.LabelCalls.{TextLabels, TextLengths};

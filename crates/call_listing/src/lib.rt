@@ -1,6 +1,8 @@
 // The public call for the listing of a register text. It has the text read and labelled in rooms of its own, and writes the
 // listing only where there is room for all of it. Labels and lengths alone are left to `call_labels_text`, what is asked of one
 // number to `call_argument`, `call_exercise` and `call_reason`.
+#![tactic(auto)]
+
 ghost use Rattle.register.specs.Register.{Register};
 ghost use Rattle.register_solve.specs.SolvedText.{Ready};
 ghost use Rattle.promises.specs.ListingCalls.{TextListing};

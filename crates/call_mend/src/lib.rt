@@ -4,6 +4,8 @@
 // The fates of all lines are kept meanwhile, one byte for each of up to 65,535: so repeats are searched once, the report is
 // made of the fates alone, and both sizes are known before anything is written. Packed, or found again by a third pass over the
 // text, they would save these bytes of stack and cost the search again.
+#![tactic(auto)]
+
 ghost use Rattle.std.specs.Prelude.{List};
 ghost use Rattle.mend.specs.TextLines.{TextLine};
 ghost use Rattle.promises.specs.MendCalls.{TextMend};

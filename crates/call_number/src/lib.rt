@@ -1,6 +1,8 @@
 // The public calls on one number: its code, from how it is written, and how it is written, from its code, into a lent room. A C
 // caller makes and prints codes by them, and the program `reason` reads its argument. Forms, codes and bytes are left to
 // `register_number`, by which texts are read and written too.
+#![tactic(auto)]
+
 ghost use Rattle.promises.specs.NumberCalls.{NumberCode, NumberText};
 
 use answer::{Answer, Refusal};

@@ -1,6 +1,8 @@
 // The reason of a statement of a register text, written into a lent room: the statement's row of the listing, then the rows of
 // the objections in its reason. Reading and labels are left to `register_solve`, what is in a reason to `reason_find`, rows to
 // `listing_row`.
+#![tactic(auto)]
+
 ghost use Rattle.std.specs.Prelude.{◌≡◌, ◌≤◌, ◌<◌, length};
 ghost use Rattle.register.specs.Register.{Register};
 ghost use Rattle.register_solve.specs.SolvedText.{Ready};

@@ -1,5 +1,7 @@
 // The public calls that keep a label sheet beside a register text: a fresh sheet, and an old one that is updated in place.
 // Reading and labels are left to `register_solve`, and the rooms that are lent to `sheet_write`.
+#![tactic(auto)]
+
 ghost use Rattle.std.specs.Prelude.{◌≤◌, length};
 ghost use Rattle.promises.specs.SheetCalls.{TextSheet, TextSheetUpdate};
 ghost use Rattle.call_sheet.specs.LabelledText.{LabelledText};

@@ -2,3 +2,4 @@
 // specs/ says how a register is written as one, and which texts are accepted or refused; proofs/ that every text is one or the
 // other, once, and that nothing is lost on the way there or back. Reading is left to `catalogue_read`, writing to
 // `catalogue_write`.
+#![tactic(auto)]

@@ -5,6 +5,8 @@
 // A line may name a number before the line that lists it: so the objectors are kept by number until all lines are read, and then
 // each is looked up. The rooms for objectors and targets hold what fits; the others are only counted, since a fault of a later
 // field comes before there being too many.
+#![tactic(auto)]
+
 ghost use Rattle.std.specs.Prelude.{List, ◌≡◌, ◌≤◌, ◌<◌, ◌+◌, ℕ, length, set, get_or};
 ghost use Rattle.register_index.specs.Indexed.{Indexed};
 ghost use Rattle.register.specs.Reads.{NotEnded};

@@ -4,6 +4,8 @@
 //
 // Both passes are linear: the objections are chained by target, from the last one on, so that a card is written by a walk that
 // meets the objections against its statement in the order of the lines, and no others.
+#![tactic(auto)]
+
 ghost use Rattle.std.specs.Prelude.{◌++◌, ◌≡◌, ◌≤◌, ◌<◌, ℕ, length, drop, get_or};
 ghost use Rattle.register.specs.Register.{Register};
 ghost use Rattle.register.specs.Texts.{rows_to};

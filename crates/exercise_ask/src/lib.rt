@@ -1,6 +1,8 @@
 // The class exercise: does a statement fall within so many turns, does it stand within so many. The chains are made here and the
 // tables begun; the questions are left to `exercise_within`. Whether the lists are in order, and how many turns may be asked, is
 // left to others.
+#![tactic(auto)]
+
 ghost use Rattle.std.specs.Prelude.{◌<◌, ◌≤◌, length};
 ghost use Rattle.game.specs.Book.{book_of};
 ghost use Rattle.lists.specs.Handed.{Handed};

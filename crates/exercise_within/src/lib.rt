@@ -6,6 +6,8 @@
 // question is answered once for a statement and a number of turns. Without tables one question on 90 statements and 3,960
 // objections takes 7.6 thousand million calls. What is found without a walk (nothing falls within 0, an unread one does not
 // stand) is not kept.
+#![tactic(auto)]
+
 ghost use Rattle.std.specs.Prelude.{◌≡◌, ◌<◌, ◌≤◌, length};
 ghost use Rattle.game.specs.Book.{book_of};
 ghost use Rattle.game.specs.Rules.{falls_within, stands_within};

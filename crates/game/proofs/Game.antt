@@ -64,7 +64,7 @@ module _ (B : Book) (σ : ℕ → ℕ) where
 
 -- However a play has gone in which I keep to a choice that forces a win, it can be played to its end, and I have won.
 module _ (B : Book) (σ : ℕ → ℕ) where
-  joined : {t m p : Turn} {x y z k j : ℕ} → Reach B σ t x k m y → Reach B σ m y j p z → Reach B σ t x (j + k) p z
+  joined : {t m : Turn} {x y k : ℕ} {p : Turn} {z j : ℕ} → Reach B σ t x k m y → Reach B σ m y j p z → Reach B σ t x (j + k) p z
   joined r start = rw zero-add r
   joined r (kept s o) = rw suc-add (kept (joined r s) o)
   joined r (named s o) = rw suc-add (named (joined r s) o)
@@ -138,7 +138,7 @@ module _ (B : Book) where
   )
 
   module _ (n : ℕ) (σ : ℕ → ℕ) (legal : Choice B σ) (good : (x : ℕ) → Answer n x (σ x)) where
-    held : {x k y : ℕ} {t m : Turn} → Held n 0 t x → Reach B σ t x k m y → Held n k m y
+    held : {x : ℕ} {t : Turn} {k y : ℕ} {m : Turn} → Held n 0 t x → Reach B σ t x k m y → Held n k m y
     unfolding Held Answer
     held h start = h
     held h (kept {y = y} r o) =

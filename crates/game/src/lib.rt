@@ -1,5 +1,6 @@
 // The meanings of the register stand in specs/, and what is proved of them in proofs/. The kind of an objection is the
 // program's own type; finding it is left to `label_kind`.
+#![tactic(auto)]
 
 // The kind of an objection. A felling or delaying one holds its length.
 #[derive(Drop)]

@@ -1,5 +1,7 @@
 // The kind of an objection: from the labels of its two ends, and of an entry of lists that are labelled; and the numbers that a
 // kind has. What kinds are stands in `game`, and where the labels come from is left to `label_solve`.
+#![tactic(auto)]
+
 ghost use Rattle.std.specs.Prelude.{◌≡◌, ◌≤◌, ◌<◌, length, get_or};
 ghost use Rattle.game.specs.Objection.{OfKind};
 ghost use Rattle.game.specs.Account.{kind_number, kind_length};

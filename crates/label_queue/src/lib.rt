@@ -1,6 +1,8 @@
 // How the labelling begins: rooms without a label, the objections counted, and what is read and has no objector labelled and
 // queued. The states of the queue that `label_step` and `label_solve` go by, and their laws, are here too; what comes of it is
 // left to them.
+#![tactic(auto)]
+
 ghost use Rattle.std.specs.Prelude.{◌≡◌, ◌≤◌, ℕ, ◌<◌, length, get_or};
 ghost use Rattle.lists.specs.Handed.{Handed};
 ghost use Rattle.label_queue.specs.LabelState.{Rooms, Blank};

@@ -2,6 +2,8 @@
 // objection is looked at once, when the label of its objector is known. The places go through a queue in order of their lengths;
 // what is never reached is open. `label_queue` fills the queue and `label_step` looks at one place of it. Whether lists are in
 // order is left to others.
+#![tactic(auto)]
+
 ghost use Rattle.std.specs.Prelude.{◌≤◌, length};
 ghost use Rattle.game.specs.Book.{book_of};
 ghost use Rattle.pair_chain.specs.Linked.{Chains};

@@ -1,5 +1,7 @@
 // How a label spreads: one place of the queue is looked at, and what it objects to falls, or has one objector less. Each such
 // objection is looked at once. Which place comes next is left to `label_solve`.
+#![tactic(auto)]
+
 ghost use Rattle.std.specs.Prelude.{◌≡◌, ◌<◌, ◌+◌, get_or};
 ghost use Rattle.pair_chain.specs.Linked.{Chains};
 ghost use Rattle.lists.specs.Handed.{Handed};

@@ -1,5 +1,7 @@
 // The rows of a listing, written into a lent room: the header, that of a statement, that of an objection, and the line of a
 // refusal; and the row of an entry of lists that are labelled. Which rows a listing has is left to `listing_write`.
+#![tactic(auto)]
+
 ghost use Rattle.std.specs.Prelude.{◌++◌, ◌≡◌, ◌<◌, ◌≤◌, length, drop};
 ghost use Rattle.game.specs.Account.{kind_account};
 ghost use Rattle.room_write.specs.Writing.{RoomFor, Put};

@@ -3,6 +3,8 @@
 //
 // The size is found by a pass of its own, so that a room that is too short is found before anything is written; a room of
 // 131,072 bytes holds every listing, and who has one needs no such pass. Both are linear: a kind is looked up in constant time.
+#![tactic(auto)]
+
 ghost use Rattle.std.specs.Prelude.{List, ◌++◌, ◌≡◌, ◌≤◌, ℕ, length, drop};
 ghost use Rattle.register.specs.Register.{Register};
 ghost use Rattle.register_solve.specs.SolvedText.{Ready};

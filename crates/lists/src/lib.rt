@@ -1,5 +1,6 @@
 // What lists can be refused for. No function stands here: specs/ says which handed lists are accepted and which fault the others
 // have, proofs/ that every list is one or the other, once. Checking lists is left to `lists_check`.
+#![tactic(auto)]
 
 // 01's 11, 6, 9, 12, 13 and 8. A case holds its entry; the first three have none.
 #[derive(Drop)]

@@ -1,5 +1,7 @@
 // Lists handed over by another program, in whatever state they are: accepted, or refused with 01's number and the first
 // entry at fault. Labels, and the room for the answer, are left to others.
+#![tactic(auto)]
+
 ghost use Rattle.std.specs.Prelude.{◌≡◌, length};
 ghost use Rattle.game.specs.Questions.{Found};
 ghost use Rattle.lists.specs.Handed.{Handed};

@@ -1,6 +1,8 @@
 // One line of a text that is mended, settled in the lent rooms: a statement among those kept before it, or an objection among
 // all statements kept and the objections kept before it. Each function answers the number of the line's fate: 0 kept, else the
 // cause for which it is dropped. Reading the lines is left to `mend_text`.
+#![tactic(auto)]
+
 ghost use Rattle.std.specs.Prelude.{cond, ◌≤◌, ◌+◌, eqb, length};
 ghost use Rattle.register_index.specs.Indexed.{Indexed};
 ghost use Rattle.pair_words.specs.Words.{objectors_in, targets_in};

@@ -1,5 +1,7 @@
 // The report of a mending, written into a lent room: a row for each line of a text that was dropped or moved. The fates of the
 // lines, by their numbers, are found by others, and words and numbers put by `room_write`.
+#![tactic(auto)]
+
 ghost use Rattle.std.specs.Prelude.{◌++◌, ◌≡◌, ◌≤◌, length, drop};
 ghost use Rattle.room_write.specs.Writing.{RoomFor, Put};
 ghost use Rattle.mend_report.specs.NumberedReport.{fate_field, numbered_row, numbered_report};

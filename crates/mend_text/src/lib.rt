@@ -1,5 +1,7 @@
 // Any text, read line by line and settled in lent rooms: first its statements, then its objections, as a line's fate depends on
 // what is kept before it. What becomes of one line is left to `mend_line`, and writing the mended text to others.
+#![tactic(auto)]
+
 ghost use Rattle.std.specs.Prelude.{cond, List, ◌≡◌, ◌≤◌, ◌<◌, ◌+◌, eqb, length, drop};
 ghost use Rattle.register_index.specs.Indexed.{Indexed};
 ghost use Rattle.register.specs.declared.StatementLine.{StatementLine};

@@ -1,5 +1,7 @@
 // Entries chained by the place that each names: who asks for the entries of one place then looks at no others. Whether
 // objections are chained by objector or by target is left to the caller.
+#![tactic(auto)]
+
 ghost use Rattle.std.specs.Prelude.{◌≡◌, ◌≤◌, ℕ, ◌<◌, length, get_or};
 ghost use Rattle.pair_chain.specs.Linked.{Linked};
 

@@ -7,6 +7,8 @@
 // those against a target with at most 64 objectors take 64 at most; at most 64 targets have more, so of the objections by one
 // statement at most 64 are against such, each in as many steps at most as that statement has objections. No contract counts
 // steps.
+#![tactic(auto)]
+
 ghost use Rattle.std.specs.Prelude.{◌≡◌, ◌≤◌, ℕ, ◌<◌, ◌+◌, length, set, take};
 ghost use Rattle.game.specs.Questions.{Found};
 ghost use Rattle.pair_words.specs.Words.{begin_against, begin_by, objectors_in, targets_in};

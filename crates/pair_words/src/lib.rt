@@ -9,6 +9,8 @@
 //
 // A link is the latest earlier entry, counted from 1, and 0 is none. Beginnings stand in turn, since words 4,096 bytes apart that
 // are read just after one of them was stored to can make a processor wait.
+#![tactic(auto)]
+
 ghost use Rattle.std.specs.Prelude.{◌≡◌, ◌<◌, ◌/◌, ◌≤◌, length, get_or};
 ghost use Rattle.pair_words.specs.Words.{objectors_in, targets_in, link_against, link_by, begin_against, begin_by, with_pair};
 ghost use Rattle.pair_words.specs.Words.{with_low, with_high, with_link_by, with_begins};

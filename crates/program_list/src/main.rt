@@ -1,5 +1,7 @@
 // Reads a register text from standard input and prints its listing, or the one line of its refusal. What is printed is
 // settled by `output`, hence by the call for a listing, on which alone it stands; the rest only moves bytes. It takes no word.
+#![tactic(auto)]
+
 ghost use Rattle.std.specs.Prelude.{◌≤◌, length, take};
 ghost use Rattle.promises.specs.Programs.{Prints};
 

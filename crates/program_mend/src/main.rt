@@ -1,6 +1,8 @@
 // Reads a text from standard input and prints it mended; what was dropped or moved is reported to the file that the program's
 // one argument names, or else to standard error. That file is made new before anything is read, so that none is ever
 // overwritten. What is printed and reported is settled by `output`, hence by the call that mends; the rest only moves bytes.
+#![tactic(auto)]
+
 ghost use Rattle.std.specs.Prelude.{◌*◌, ◌≤◌, length};
 ghost use Rattle.program_mend.specs.Sizes.{Inside, outcome_in};
 ghost use Rattle.promises.specs.Programs.{Mends};

@@ -1,6 +1,8 @@
 // Reads a register text from standard input and prints the reason of the statement whose number is the program's one
 // argument, or the one line of a refusal. What is printed is settled by `output`, hence by two calls, the one that reads a number
 // and the one for a reason, on which alone it stands; the rest only moves bytes.
+#![tactic(auto)]
+
 ghost use Rattle.std.specs.Prelude.{◌≤◌, ℕ, length, take};
 ghost use Rattle.register.specs.Number.{IsNumber, number_bytes};
 ghost use Rattle.promises.specs.Programs.{PrintsReason};

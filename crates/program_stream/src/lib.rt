@@ -1,6 +1,8 @@
 // What the programs have in common: a word that none of them takes is answered by how the program is used, standard input is
 // read whole into a room, an answer is put as what is printed of it, and a room's first bytes are written in pieces. What is
 // asked and answered is each program's own. A filter, which takes no word at all, has its input and its output done whole here.
+#![tactic(auto)]
+
 ghost use Rattle.std.specs.Prelude.{◌≡◌, ◌≤◌, ◌-◌, ◌<◌, length};
 ghost use Rattle.program_stream.specs.Input.{Within};
 ghost use Rattle.program_stream.specs.Pieces.{Piece};

@@ -1,6 +1,8 @@
 // Reads a catalogue from standard input and prints the old form of its register, or the one line of its refusal. What is printed
 // is settled by `output`, hence by the call for the old form, on which alone it stands; the rest only moves bytes. It takes no
 // word.
+#![tactic(auto)]
+
 ghost use Rattle.std.specs.Prelude.{◌≤◌, length, take};
 ghost use Rattle.promises.specs.Programs.{PrintsOldForm};
 

@@ -1,5 +1,7 @@
 // Whether one objection belongs to a reason, in a register that is labelled: it goes by the objection's kind and the length of
 // its target. Which objections a reason comes to is left to `reason_find`.
+#![tactic(auto)]
+
 ghost use Rattle.std.specs.Prelude.{◌<◌, length, get_or};
 ghost use Rattle.game.specs.Book.{book_of};
 ghost use Rattle.game.specs.Questions.{Decides};

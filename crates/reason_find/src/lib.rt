@@ -5,6 +5,8 @@
 // Each statement is looked at once, and with it the objections against it, so the time is linear in statements and objections. A
 // tick for each statement and, in the end, one for each objection: counting and writing then go by the same ticks. The rooms of
 // the walk have 1,024 entries whatever the register's size, so that no part of a room is lent.
+#![tactic(auto)]
+
 ghost use Rattle.std.specs.Prelude.{◌≡◌, ◌<◌, ◌≤◌, ℕ, length, get_or};
 ghost use Rattle.game.specs.Book.{book_of};
 ghost use Rattle.game.specs.Questions.{Decides};

@@ -1,6 +1,7 @@
 // What a register text is: its lines, numbers and marks, and what a text is refused for. No function stands here: specs/ says how
 // a register is written, and which texts are accepted or refused; proofs/ that every text is one or the other, once. Reading a
 // text is left to `register_read`.
+#![tactic(auto)]
 
 // A number of an acquisition, such as 1987.14: the year, and the serial within it.
 #[derive(Drop)]

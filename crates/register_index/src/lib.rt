@@ -7,6 +7,8 @@
 // issued one after the other differ there. No choice of numbers makes it slow, as a hash table can be made: a number's code is
 // below 121,000,000, so below 8 to the 9th, and nine steps are the most (eleven for 32 bits that are nobody's); no contract says
 // so.
+#![tactic(auto)]
+
 ghost use Rattle.std.specs.Prelude.{◌≡◌, ◌≤◌, ◌+◌, length, get_or, set};
 ghost use Rattle.game.specs.Questions.{Found};
 ghost use Rattle.register_index.specs.Indexed.{slot, Indexed, Free, New};

@@ -1,5 +1,7 @@
 // One line of a register text: its fields and its mark, read at a place of the lent text. Numbers are left to `register_number`,
 // and whether a line is in order after those before it to others.
+#![tactic(auto)]
+
 pub mod reader;
 
 ghost use Rattle.std.specs.Prelude.{◌≡◌, ◌≤◌, length};

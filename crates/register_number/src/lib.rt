@@ -1,6 +1,8 @@
 // A number of a register: read at a place of the lent text as one of its two forms, its code, its size, and written into a lent
 // room. What a number is, `register` says; the line around it is left to others, and so are counts and lengths, which are plain
 // decimals. Only here does the program know how a code is made, so that everything above compares codes.
+#![tactic(auto)]
+
 ghost use Rattle.std.specs.Prelude.{◌≡◌, ◌≤◌, ◌^◌, length};
 ghost use Rattle.register.specs.Number.{Proper, code, form_of, number_bytes};
 ghost use Rattle.room_write.specs.Writing.{RoomFor, Put};

@@ -1,5 +1,7 @@
 // The register text: read line by line into lent rooms, or refused with 01's number and line. What is accepted and what is
 // refused, `register` says; what a line is, is left to `register_line`, and labels to others.
+#![tactic(auto)]
+
 ghost use Rattle.std.specs.Prelude.{true, false, ◌≡◌, ◌≤◌, ◌<◌, ◌+◌, length};
 ghost use Rattle.register_index.specs.Indexed.{Indexed};
 ghost use Rattle.register.specs.Reads.{NotEnded};

@@ -1,5 +1,7 @@
 // A register text, read and labelled: what most calls on a text begin with. Reading is left to `register_read`, labels to
 // `label_solve`; what is then asked of the register is left to the crates above.
+#![tactic(auto)]
+
 ghost use Rattle.std.specs.Prelude.{◌≤◌, length, take};
 ghost use Rattle.lists.specs.Handed.{Handed};
 ghost use Rattle.label_solve.specs.Labelled.{Solved};

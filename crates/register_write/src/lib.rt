@@ -1,5 +1,7 @@
 // The register that lists hold, written back as its text into a lent room: a line for each statement, then a line for each
 // objection. Which lists a register makes is left to `register`; numbers are put by `register_number`, and words by `room_write`.
+#![tactic(auto)]
+
 ghost use Rattle.std.specs.Prelude.{List, ◌++◌, ◌≡◌, ◌≤◌, ◌<◌, ℕ, length, drop};
 ghost use Rattle.room_write.specs.Writing.{RoomFor, Put};
 ghost use Rattle.register_write.specs.Copied.{statements_text, Copyable, objections_text, copied, mark_end, statement_bytes};

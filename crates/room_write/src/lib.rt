@@ -3,6 +3,8 @@
 //
 // Decimals are put two digits at a time, since each division waits for the one before: one by one, writing numbers took two
 // fifths of the time of a listing with few objections.
+#![tactic(auto)]
+
 ghost use Rattle.std.specs.Prelude.{◌≡◌, ◌<◌, length};
 ghost use Rattle.register.specs.Texts.{decimal};
 ghost use Rattle.room_write.specs.Writing.{RoomFor, Put, two_digits};

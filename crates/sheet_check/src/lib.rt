@@ -1,5 +1,7 @@
 // Whether an old label sheet is sound: it has the register's size, no 3 and no spare bit set, and its own totals beside it. How
 // codes stand in bytes is left to `sheet_code`.
+#![tactic(auto)]
+
 ghost use Rattle.std.specs.Prelude.{◌≤◌, length};
 ghost use Rattle.game.specs.Questions.{Decides};
 ghost use Rattle.sheet.specs.Sheet.{codes, SoundSheet};

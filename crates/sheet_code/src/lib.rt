@@ -1,5 +1,7 @@
 // A label sheet: two bits for each statement, four to a byte, and three totals beside it. Here a code is read and set, and codes
 // are counted. Whether a sheet is sound is left to `sheet_check`, and a sheet is made and updated in `sheet_fill`.
+#![tactic(auto)]
+
 ghost use Rattle.std.specs.Prelude.{◌≡◌, ◌/◌, ◌<◌, ◌*◌, ◌≤◌, ℕ, length, get_or};
 ghost use Rattle.sheet.specs.Sheet.{code_at};
 ghost use Rattle.sheet_code.specs.SheetParts.{CodeSet, Tallied};

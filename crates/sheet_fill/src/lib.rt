@@ -3,6 +3,8 @@
 //
 // A fresh sheet is an update of zeros, so one loop sets codes, and it sets one only where it differs: a byte without a changed
 // label is not stored to. The totals are counted from the sheet, the statements of all four codes in one pass.
+#![tactic(auto)]
+
 ghost use Rattle.std.specs.Prelude.{◌≡◌, ℕ, ◌*◌, ◌≤◌, ◌<◌, get_or, length};
 ghost use Rattle.answer.specs.Answer.{Begins};
 ghost use Rattle.sheet.specs.Sheet.{codes, total, bytes_for};

@@ -1,5 +1,7 @@
 // A label sheet and its totals in two lent rooms: written afresh, or updated, if the rooms are long enough and hold what they
 // have to. What is on a sheet is left to `sheet_code` and the crates upon it, and the labels to others.
+#![tactic(auto)]
+
 ghost use Rattle.std.specs.Prelude.{◌≤◌, length};
 ghost use Rattle.game.specs.Book.{Book};
 ghost use Rattle.sheet_code.specs.SheetParts.{LabelsOf};

@@ -1,7 +1,7 @@
 -- The views of two rooms: objectors, targets and links in the first; links and where chains begin in the second. Each store sets
 -- its view and leaves the others.
 use mathlib.Core.List.{List, map, [], ◌∷◌}
-use mathlib.Core.Logic.{inl, inr, ⊎_elim, ◌⊎◌}
+use mathlib.Core.Logic.{inl, inr, ⊎_elim}
 use mathlib.Core.Path.{refl, ap, sym, ◌≡◌, ◌∙◌}
 use Prim.Native.Nat.{ℕ, zero, suc, ◌+◌, ◌-◌, ◌*◌, ◌/◌, ◌%◌, ◌≤◌, ◌<◌}
 use native.Mathlib.Decide.{dec_lt}

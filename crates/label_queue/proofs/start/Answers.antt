@@ -1,11 +1,9 @@
 -- `start` queues what is read and has no objector. The invariant: the places passed are settled.
 use mathlib.Core.Path.{◌≡◌, refl, ◌∙◌}
-use Prim.Native.Nat.{ℕ, ◌-◌, ◌<◌, ◌≤◌}
 use native.Mathlib.Omega.{arith}
-use lib.ListN.{length, get_or, length-set}
+use lib.ListN.{length, length-set}
 use lib.Seq.{get_or-set_other}
-use Rattle.label_queue.specs.Queue.{Run}
-use Rattle.label_queue.proofs.Runs.{run_blank, settle, start_room, start_set}
+use Rattle.label_queue.proofs.Runs.{run_blank, start_room, start_set}
 use Rattle.std.proofs.Common.{rules}
 use Rattle.label_queue.proofs.start.Goals as goal
 
@@ -23,8 +21,8 @@ loop-i-init c = (
 pub bounds-queue-t : goal.bounds-queue-t
 bounds-queue-t c = omega (
   arith,
-  start_room _ _ _ c.requires.0 _ _ _ _ _ _ c.loop-i.invariant.4 (search rules)
-      (omega (arith, c.requires.1.1.0.1, c.loop-i.invariant.3)) (c.loop-i.invariant.5 c.loop-i.i (omega arith)
+  start_room _ _ _ c.requires.handed _ _ _ _ _ _ c.loop-i.invariant.4 (search rules)
+      (omega (arith, c.requires.marks_in_bounds.1, c.loop-i.invariant.3)) (c.loop-i.invariant.5 c.loop-i.i (omega arith)
       c.loop-i-test.true),
 )
 
@@ -36,7 +34,12 @@ loop-i-preserved c = (
   simp length-set c.loop-i.invariant.3,
   start_set _ _ _ c.requires.handed _ _ _ _ _ _
       c.loop-i.invariant.4 c.loop-i-test.true
-      (search rules) (search rules) (search rules) c.if-marks-i-ne0.false c.if-left-i-ne0.false
+      (search rules) (search rules) (omega (
+        arith,
+        start_room _ _ _ c.requires.handed _ _ _ _ _ _ c.loop-i.invariant.4 (search rules)
+            (omega (arith, c.requires.marks_in_bounds.1, c.loop-i.invariant.3)) (c.loop-i.invariant.5 c.loop-i.i (omega arith)
+            c.loop-i-test.true),
+      )) c.if-marks-i-ne0.false c.if-left-i-ne0.false
       (c.loop-i.invariant.5 c.loop-i.i (omega arith)
       c.loop-i-test.true),
   λ x h g. get_or-set_other c.loop-i.labels _ x 1 0

@@ -1,11 +1,8 @@
 -- `start` queues what is read and has no objector. The invariant: the places passed are settled.
-use mathlib.Core.Path.{◌≡◌, refl, ◌∙◌}
+use mathlib.Core.Path.{◌≡◌}
 use Prim.Native.Nat.{ℕ, ◌-◌, ◌<◌, ◌≤◌}
-use native.Mathlib.Omega.{arith}
-use lib.ListN.{length, get_or, length-set}
-use lib.Seq.{get_or-set_other}
+use lib.ListN.{length, get_or}
 use Rattle.label_queue.specs.Queue.{Run}
-use Rattle.label_queue.proofs.Runs.{run_blank, settle, start_room, start_set}
 use Rattle.label_queue.proofs.start.Given as goal
 
 abbrev pub invariant-loop-i : goal.invariant-loop-i

@@ -1,8 +1,6 @@
 -- `read` settles rows 1 and 2, and leaves the lines to `read_lines`, with an empty index.
-use native.Mathlib.Omega.{arith}
 use Rattle.register_index.proofs.Index.{indexed_none}
-use Rattle.std.proofs.Common.{rules}
 use Rattle.register_read.proofs.read.Goals as goal
 
 pub read_lines-requires-clause-indexed : goal.read_lines-requires-clause-indexed
-read_lines-requires-clause-indexed c = ((omega arith, c.ended.ensures.0 c.if-ended.true), (c.requires, indexed_none _))
+read_lines-requires-clause-indexed c = indexed_none _

@@ -4,4 +4,4 @@ use Rattle.std.proofs.Common.{rules}
 use Rattle.lists_check.proofs.repeated.Goals as goal
 
 pub first_repeat-requires-clause-entered : goal.first_repeat-requires-clause-entered
-first_repeat-requires-clause-entered c = (c.requires, chains_zeros _ c.requires.few_marks)
+first_repeat-requires-clause-entered c = chains_zeros _ c.requires.few_marks

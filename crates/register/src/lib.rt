@@ -43,7 +43,7 @@ pub enum Line {
 }
 
 // What a text can be refused for: 01's numbers 1 to 9. A case holds its line; the first two have none.
-#[derive(Drop)]
+#[derive(Clone, Copy)]
 pub enum TextFault {
     TooLong,
     Unended,

@@ -1,0 +1,15 @@
+-- `tally`: the invariant is that the statements passed are counted.
+use mathlib.Core.Path.{◌≡◌, sym, ◌∙◌}
+use Prim.Native.Nat.{◌-◌, ◌≤◌, ◌<◌}
+use native.Mathlib.Omega.{arith}
+use lib.ListN.{length, length-set}
+use Rattle.sheet_code.specs.SheetParts.{Tallied}
+use Rattle.sheet_code.proofs.Totals.{total_none, total_few, tallied_more}
+use Rattle.sheet.proofs.Codes.{code_small}
+use Rattle.sheet_code.proofs.tally.Given as goal
+
+abbrev pub invariant-loop-x : goal.invariant-loop-x
+invariant-loop-x l = (l.x ≤ l.n) × (length l.counts ≡ 4) × Tallied l.sheet l.x l.counts
+
+abbrev pub decreases-loop-x : goal.decreases-loop-x
+decreases-loop-x l = l.n - l.x

@@ -1,8 +1,5 @@
 -- `read` settles rows 1 and 2, and leaves the lines to `read_cards`, with an empty index.
-use mathlib.Core.Logic.{inl}
-use native.Mathlib.Omega.{arith}
 use Rattle.register_index.proofs.Index.{indexed_none}
-use Rattle.std.proofs.Common.{rules}
 use Rattle.catalogue_read.proofs.read.Goals as goal
 
 pub read_cards-requires-clause-indexed : goal.read_cards-requires-clause-indexed

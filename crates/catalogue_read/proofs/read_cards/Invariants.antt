@@ -1,12 +1,9 @@
 -- `read_cards`: the invariant is that the lines passed are sound cards, which the rooms hold, and that their numbers are indexed.
-use mathlib.Core.Path.{◌≡◌, refl, ◌∙◌}
+use mathlib.Core.Path.{◌≡◌}
 use Prim.Native.Nat.{◌-◌}
-use native.Mathlib.Omega.{arith}
 use lib.ListN.{length}
 use Rattle.register_index.specs.Indexed.{Indexed}
-use Rattle.catalogue_read.specs.CatalogueState.{CardAt}
-use Rattle.catalogue_read.specs.declared.CardRead.TheVariants.{CardOf}
-use Rattle.catalogue_read.proofs.Reader.{Inv, start, few, spoiled, fault, kept, overall}
+use Rattle.catalogue_read.proofs.Reader.{Inv}
 use Rattle.catalogue_read.proofs.read_cards.Given as goal
 
 abbrev pub invariant-loop-at : goal.invariant-loop-at

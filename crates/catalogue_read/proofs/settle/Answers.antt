@@ -1,29 +1,10 @@
 -- `settle` asks for 7, then for 8, then how long the old form is.
-use mathlib.Core.List.{List}
-use mathlib.Core.Path.{refl, sym}
+use mathlib.Core.Path.{refl}
 use native.Mathlib.Omega.{arith}
-use lib.Seq.{length-take-le}
 use Rattle.pair_chain.proofs.ChainSteps.{all_zero}
-use Rattle.catalogue.specs.Cards.{Card}
 use Rattle.register_write.proofs.Copied.{made_copyable, made_size}
-use Rattle.catalogue_read.specs.CatalogueState.{Filed}
-use Rattle.catalogue_read.proofs.Settled.{in_line, unknown_card, all_listed, placed_low, repeated_card, passed}
-use Rattle.catalogue_read.proofs.Settled.{Passed}
-use Rattle.std.proofs.Common.{rules}
+use Rattle.catalogue_read.proofs.Settled.{in_line, unknown_card, all_listed, repeated_card, passed}
 use Rattle.catalogue_read.proofs.settle.Goals as goal
-
--- helper
-passed-at : (c : tie.After-register-size-arg3) (cs : List Card)
-    → Filed cs (begun c).args.n (begun c).args.m (begun c).args.numbers.now (begun c).args.objectors.now
-    (begun c).args.targets.now
-    → Passed cs (begun c).args.n (begun c).args.m (begun c).args.numbers.now (begun c).args.targets.now
-    c.before.before.before.before.before.before.before.before.before.before.before.place-objectors.new.1.1.0
-passed-at c cs filed =
-    let back = c.before.before.before.before.before.before.before.before in
-    let place = back.before.before.before.place-objectors in
-    passed cs _ _ _ _ _ filed place.new.1.1.0 _ place.ensures back.if1.false _
-    c.before.before.before.before.before.repeat-line.ensures
-    c.before.before.before.if2.false (omega (arith, place.auto.1.1.0, (begun c).requires.1.1))
 
 pub place_objectors-unknown-requires : goal.place_objectors-unknown-requires
 place_objectors-unknown-requires c = (c.requires.indexed.0, c.requires.indexed.1, in_line c.requires.filed.0 _ _ _ _ _ c.requires.filed.1 c.requires.indexed.2)
@@ -47,11 +28,15 @@ returns-then-repeated-ne0 c = λ cs filed. (
 )
 
 pub register_size-requires : goal.register_size-requires
-register_size-requires c = made_copyable _ _ _ _ _ (passed-at c c.requires.filed.0 c.requires.filed.1).made
+register_size-requires c = made_copyable _ _ _ _ _ (passed c.requires.filed.0 _ _ _ _ _ c.requires.filed.1 c.place_objectors-unknown.new.objectors _ c.place_objectors-unknown.ensures c.if-unknown-ne0.false _
+    c.repeat_line-repeated.ensures c.if-repeated-ne0.false
+    (omega (arith, c.place_objectors-unknown.auto.objectors, c.requires.indexed.1))).made
 
 pub returns-then-register_size-gt65535 : goal.returns-then-register_size-gt65535
 returns-then-register_size-gt65535 c = λ cs filed.
-    let p = passed-at CTX (Else2) cs filed in (
+    let p = passed cs _ _ _ _ _ filed c.place_objectors-unknown.new.objectors _ c.place_objectors-unknown.ensures c.if-unknown-ne0.false _
+    c.repeat_line-repeated.ensures c.if-repeated-ne0.false
+    (omega (arith, c.place_objectors-unknown.auto.objectors, c.requires.indexed.1)) in (
       p.listed,
       p.once,
       omega (arith, made_size _ _ _ _ _ p.made _ c.register_size.ensures),
@@ -59,7 +44,9 @@ returns-then-register_size-gt65535 c = λ cs filed.
 
 pub returns : goal.returns
 returns c = λ cs filed.
-    let p = passed-at CTX (Else2) cs filed in (
+    let p = passed cs _ _ _ _ _ filed c.place_objectors-unknown.new.objectors _ c.place_objectors-unknown.ensures c.if-unknown-ne0.false _
+    c.repeat_line-repeated.ensures c.if-repeated-ne0.false
+    (omega (arith, c.place_objectors-unknown.auto.objectors, c.requires.indexed.1)) in (
       p.listed,
       p.once,
       omega (arith, made_size _ _ _ _ _ p.made _ c.register_size.ensures),

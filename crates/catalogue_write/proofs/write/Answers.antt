@@ -7,7 +7,6 @@ use Rattle.room_write.proofs.Writing.{put_start}
 use Rattle.register_write.proofs.Copied.{made_copyable}
 use Rattle.catalogue_write.specs.CatalogueRows.{catalogued_lists}
 use Rattle.catalogue_write.proofs.CatalogueTold.{lists_catalogued, made_marked}
-use Rattle.std.proofs.Common.{rules}
 use Rattle.catalogue_write.proofs.write.Goals as goal
 
 pub chain_back-requires-clause-by_index : goal.chain_back-requires-clause-by_index
@@ -17,40 +16,17 @@ pub chain_back-requires-clause-by_index_2 : goal.chain_back-requires-clause-by_i
 chain_back-requires-clause-by_index_2 c = let ok = made_copyable _ _ _ _ _ c.requires.1 in λ x. all_zero 1024 x
 
 pub put_cards-requires-clause-writable : goal.put_cards-requires-clause-writable
-put_cards-requires-clause-writable c = ?
-
--- Bad Chain-back is no step above After-next3:     let chained = c.before.before.before.before.before in
---     let start = chained.before.before.before.before.before.before.before.before in
---     let made = start.requires.1 in
---     let ok = made_copyable _ _ _ _ _ made in (
---       (
---         record {
---           copyable = ok;
---           chained = chained.Chain-back.ensures;
---           head_room = omega (arith, ok.few_numbers, chained.Chain-back.auto.1.0);
---         },
---         made_marked _ _ _ _ _ made,
---       ),
---       omega (arith, start.requires.2, ap length (lists_catalogued _ _ _ _ _ made)),
---     )
+put_cards-requires-clause-writable c = let ok = made_copyable _ _ _ _ _ c.requires.1 in (
+  record {
+    copyable = ok;
+    chained = c.chain_back.ensures;
+    head_room = omega (arith, ok.few_numbers, c.chain_back.auto.head);
+  },
+  made_marked _ _ _ _ _ c.requires.1,
+)
 
 pub put_cards-requires-clause-room_for : goal.put_cards-requires-clause-room_for
-put_cards-requires-clause-room_for c = ?
-
--- Bad Chain-back is no step above After-next3:     let chained = c.before.before.before.before.before in
---     let start = chained.before.before.before.before.before.before.before.before in
---     let made = start.requires.1 in
---     let ok = made_copyable _ _ _ _ _ made in (
---       (
---         record {
---           copyable = ok;
---           chained = chained.Chain-back.ensures;
---           head_room = omega (arith, ok.few_numbers, chained.Chain-back.auto.1.0);
---         },
---         made_marked _ _ _ _ _ made,
---       ),
---       omega (arith, start.requires.2, ap length (lists_catalogued _ _ _ _ _ made)),
---     )
+put_cards-requires-clause-room_for c = let ok = made_copyable _ _ _ _ _ c.requires.1 in omega (arith, c.requires.2, ap length (lists_catalogued _ _ _ _ _ c.requires.1))
 
 pub returns : goal.returns
 returns c R made = let whole = catalogued_lists c.args.numbers.now c.args.marks.now c.args.objectors.now c.args.targets.now in

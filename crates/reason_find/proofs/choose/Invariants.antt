@@ -1,10 +1,8 @@
 -- `choose` asks of each objection whether it is in the reason. The invariant: those passed have their ticks, the others none.
-use mathlib.Core.Path.{◌≡◌, refl, ◌∙◌}
+use mathlib.Core.Path.{◌≡◌}
 use Prim.Native.Nat.{◌-◌, ◌≤◌}
-use native.Mathlib.Omega.{arith}
-use lib.ListN.{length, length-set}
-use Rattle.pair_chain.proofs.ChainSteps.{all_zero}
-use Rattle.reason_find.proofs.TickSteps.{Choosing, chosen_in, chosen_out}
+use lib.ListN.{length}
+use Rattle.reason_find.proofs.TickSteps.{Choosing}
 use Rattle.reason_find.proofs.choose.Given as goal
 
 abbrev pub invariant-loop-next : goal.invariant-loop-next

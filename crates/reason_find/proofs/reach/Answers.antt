@@ -1,12 +1,9 @@
 -- `reach` goes along its own queue. The invariant: what has a tick is reached, and what comes before `at` is followed.
-use mathlib.Core.Path.{◌≡◌, refl, sym, ◌∙◌}
-use Prim.Native.Nat.{◌-◌}
+use mathlib.Core.Path.{refl, ◌∙◌}
 use native.Mathlib.Omega.{arith}
-use lib.ListN.{length}
 use Rattle.pair_chain.proofs.ChainSteps.{all_zero}
-use Rattle.reason_find.proofs.Ticks.{queued_none, queued_in_room, grown_in_room, queue_few}
-use Rattle.reason_find.proofs.TickSteps.{Spreading, spread_begins, spread_more, spread_listed, spread_ends}
-use Rattle.std.proofs.Common.{rules}
+use Rattle.reason_find.proofs.Ticks.{queued_none, grown_in_room}
+use Rattle.reason_find.proofs.TickSteps.{spread_begins, spread_more, spread_listed, spread_ends}
 use Rattle.reason_find.proofs.reach.Goals as goal
 
 pub chain-requires-clause-by_index_2 : goal.chain-requires-clause-by_index_2
@@ -45,8 +42,8 @@ tick_objectors-tail-requires-clause-lists_labelled c = (
 pub loop-at-preserved : goal.loop-at-preserved
 loop-at-preserved c = (
   spread_more _ _ _ _ _ _ _ _ _ c.loop-at.invariant.0 _ _ _ _ c.loop-at-test.true c.wide-x.ensures
-      (grown_in_room _ _ _ _ _ _ _ _ c.loop-at.invariant.0.queued.same c.tick_objectors-tail.ensures.0) c.tick_objectors-tail.ensures.1,
-  c.tick_objectors-tail.ensures.0.as_long ∙ c.loop-at.invariant.1,
+      (grown_in_room _ _ _ _ _ _ _ _ c.loop-at.invariant.0.queued.same c.tick_objectors-tail.ensures.grown) c.tick_objectors-tail.ensures.by_index,
+  c.tick_objectors-tail.ensures.grown.as_long ∙ c.loop-at.invariant.1,
 )
 
 pub returns : goal.returns

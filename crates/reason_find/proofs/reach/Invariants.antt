@@ -1,11 +1,8 @@
 -- `reach` goes along its own queue. The invariant: what has a tick is reached, and what comes before `at` is followed.
-use mathlib.Core.Path.{◌≡◌, refl, sym, ◌∙◌}
+use mathlib.Core.Path.{◌≡◌}
 use Prim.Native.Nat.{◌-◌}
-use native.Mathlib.Omega.{arith}
 use lib.ListN.{length}
-use Rattle.pair_chain.proofs.ChainSteps.{all_zero}
-use Rattle.reason_find.proofs.Ticks.{queued_none, queued_in_room, grown_in_room, queue_few}
-use Rattle.reason_find.proofs.TickSteps.{Spreading, spread_begins, spread_more, spread_listed, spread_ends}
+use Rattle.reason_find.proofs.TickSteps.{Spreading}
 use Rattle.reason_find.proofs.reach.Given as goal
 
 abbrev pub invariant-loop-at : goal.invariant-loop-at

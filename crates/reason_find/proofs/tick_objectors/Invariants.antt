@@ -1,11 +1,7 @@
 -- `tick-objectors` goes along the chain of x. The invariant: the objections that were seen are followed, and nothing else has a
 -- tick.
-use Prim.Native.Nat.{◌-◌, ◌<◌}
-use native.Mathlib.Omega.{arith}
 use lib.ListN.{length}
-use Rattle.pair_chain.proofs.ChainWalks.{walk_lower}
-use Rattle.reason_find.proofs.Ticks.{queued_in_room, grown_in_room}
-use Rattle.reason_find.proofs.TickSteps.{Following, follow_begins, follow_passes, follow_comes, follow_ends}
+use Rattle.reason_find.proofs.TickSteps.{Following}
 use Rattle.reason_find.proofs.tick_objectors.Given as goal
 
 abbrev pub invariant-loop-c : goal.invariant-loop-c

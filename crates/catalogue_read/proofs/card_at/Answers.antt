@@ -1,6 +1,5 @@
 -- `card_at` reads what stands before the objectors, then their fields.
-use Rattle.catalogue_read.proofs.CardText.{no_head, no_fields, whole_card}
-use Rattle.std.proofs.Common.{rules}
+use Rattle.catalogue_read.proofs.CardText.{no_fields, whole_card}
 use Rattle.catalogue_read.proofs.card_at.Goals as goal
 
 pub returns-in_default-fields_at : goal.returns-in_default-fields_at

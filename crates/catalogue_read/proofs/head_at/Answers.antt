@@ -1,17 +1,6 @@
 -- `head_at` tests the bytes one by one; whatever fails a test is no statement.
-use mathlib.Core.Path.{sym, ◌≡◌, ◌∙◌}
-use Prim.Native.Nat.{◌+◌, ◌<◌}
-use native.Mathlib.Omega.{arith}
-use lib.ListN.{length}
-use Rattle.register.specs.Lines.{mark_byte}
-use Rattle.register.specs.declared.Mark.{Mark}
-use Rattle.register.specs.declared.Mark.TheVariants.{Read, Unread}
-use Rattle.register_number.proofs.NumberSteps.{byte_inside}
-use Rattle.catalogue_read.specs.CatalogueState.{HeadAt}
-use Rattle.catalogue_read.specs.declared.HeadRead.TheVariants.{Head}
-use Rattle.catalogue_read.proofs.CardText.{head_unlettered, head_untabbed, head_unnumbered, head_unparted, head_unmarked}
-use Rattle.catalogue_read.proofs.CardText.{head_good}
-use Rattle.std.proofs.Common.{rules}
+use mathlib.Core.Path.{◌∙◌}
+use Rattle.catalogue_read.proofs.CardText.{head_unparted, head_unmarked}
 use Rattle.catalogue_read.proofs.head_at.Goals as goal
 
 pub returns-then-byte_at-ne9-2 : goal.returns-then-byte_at-ne9-2
@@ -22,4 +11,4 @@ returns-then-byte_at-ne9-2 c = head_unparted c.args.text.now c.args.at _ _
 pub returns-in_default-byte_at : goal.returns-in_default-byte_at
 returns-in_default-byte_at c = head_unmarked _ _ _ _
     (rw c.in-Value.is at c.number_at.ensures)
-    (λ e. c.in_default-byte_at.rest.0.1 (c.byte_at-4.ensures ∙ e)) (λ e. c.in_default-byte_at.rest.1 (c.byte_at-4.ensures ∙ e))
+    (λ e. c.in_default-byte_at.in_default-byte_at-own.rest.0.1 (c.byte_at-4.ensures ∙ e)) (λ e. c.in_default-byte_at.in_default-byte_at-own.rest.1 (c.byte_at-4.ensures ∙ e))

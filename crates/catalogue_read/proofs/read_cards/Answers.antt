@@ -10,6 +10,17 @@ use Rattle.catalogue_read.proofs.Reader.{Inv, start, few, spoiled, fault, kept, 
 use Rattle.std.proofs.Common.{rules}
 use Rattle.catalogue_read.proofs.read_cards.Goals as goal
 
+-- helper
+card-line : (c : tie.After-known-told invariant-loop decreases-loop)
+    → CardAt (looped c).before.before.before.before.before.before.before.args.text.now (looped c).loop.at
+    (looped c).loop.n (looped c).loop.m
+    (looped c).loop.objectors (looped c).loop.targets
+    c.before.before.before.before.before.before.before.card-at.new.1.1.0
+    c.before.before.before.before.before.before.before.card-at.new.1.1.1.0
+    (CardOf c.before.statement.given.0.0 c.before.statement.given.0.1.0
+    c.before.statement.given.0.1.1.0)
+card-line c = rw c.before.statement.given.1 at c.before.before.before.before.before.before.before.card-at.ensures
+
 pub loop-at-init : goal.loop-at-init
 loop-at-init c = (start _ _ _ _ _, refl, refl, refl, refl, refl, c.requires.indexed)
 
@@ -34,5 +45,5 @@ loop-at-preserved c = (
 
 pub returns : goal.returns
 returns c = overall _ _ _ _ _ _ _ _ c.loop-at.invariant.0 c.requires.text_len_bound.0
-    c.loop-at-test.false c.settle.new.1.1.0 c.settle.result
+    c.loop-at-test.false c.settle.new.objectors c.settle.result
     (c.settle.ensures c.loop-at.invariant.0.cards c.loop-at.invariant.0.filed)

@@ -1,10 +1,6 @@
 -- `repeat_line` goes over the objectors. The invariant: none passed is named twice on a line, and `last` has the last lines.
-use mathlib.Core.Logic.{inl}
-use mathlib.Core.Path.{refl}
-use Prim.Native.Nat.{◌-◌, ◌<◌}
-use native.Mathlib.Omega.{arith}
-use lib.ListN.{length}
-use Rattle.catalogue_read.proofs.Passes.{Naming, none_named, one_named, repeated}
+use Prim.Native.Nat.{◌-◌}
+use Rattle.catalogue_read.proofs.Passes.{Naming}
 use Rattle.catalogue_read.proofs.repeat_line.Given as goal
 
 abbrev pub invariant-loop-k : goal.invariant-loop-k

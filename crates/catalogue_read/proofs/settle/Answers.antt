@@ -12,11 +12,24 @@ use Rattle.catalogue_read.proofs.Settled.{Passed}
 use Rattle.std.proofs.Common.{rules}
 use Rattle.catalogue_read.proofs.settle.Goals as goal
 
+-- helper
+passed-at : (c : tie.After-register-size-arg3) (cs : List Card)
+    → Filed cs (begun c).args.n (begun c).args.m (begun c).args.numbers.now (begun c).args.objectors.now
+    (begun c).args.targets.now
+    → Passed cs (begun c).args.n (begun c).args.m (begun c).args.numbers.now (begun c).args.targets.now
+    c.before.before.before.before.before.before.before.before.before.before.before.place-objectors.new.1.1.0
+passed-at c cs filed =
+    let back = c.before.before.before.before.before.before.before.before in
+    let place = back.before.before.before.place-objectors in
+    passed cs _ _ _ _ _ filed place.new.1.1.0 _ place.ensures back.if1.false _
+    c.before.before.before.before.before.repeat-line.ensures
+    c.before.before.before.if2.false (omega (arith, place.auto.1.1.0, (begun c).requires.1.1))
+
 pub place_objectors-unknown-requires : goal.place_objectors-unknown-requires
 place_objectors-unknown-requires c = (c.requires.indexed.0, c.requires.indexed.1, in_line c.requires.filed.0 _ _ _ _ _ c.requires.filed.1 c.requires.indexed.2)
 
 pub returns-then-unknown-ne0 : goal.returns-then-unknown-ne0
-returns-then-unknown-ne0 c = λ cs filed. unknown_card cs _ _ _ _ _ filed c.place_objectors-unknown.new.1.1.0 _ c.place_objectors-unknown.ensures c.if-unknown-ne0.true
+returns-then-unknown-ne0 c = λ cs filed. unknown_card cs _ _ _ _ _ filed c.place_objectors-unknown.new.objectors _ c.place_objectors-unknown.ensures c.if-unknown-ne0.true
 
 pub repeat_line-repeated-requires-clause-m_in_bounds : goal.repeat_line-repeated-requires-clause-m_in_bounds
 repeat_line-repeated-requires-clause-m_in_bounds c = (omega (arith, c.place_objectors-unknown.auto.objectors, c.requires.indexed.1), in_line c.requires.filed.0 _ _ _ _ _ c.requires.filed.1 c.requires.indexed.2)
@@ -26,9 +39,9 @@ repeat_line-repeated-requires-clause-by_index_2 c = all_zero 1024
 
 pub returns-then-repeated-ne0 : goal.returns-then-repeated-ne0
 returns-then-repeated-ne0 c = λ cs filed. (
-  all_listed cs _ _ _ _ _ filed c.place_objectors-unknown.new.1.1.0 _ c.place_objectors-unknown.ensures
+  all_listed cs _ _ _ _ _ filed c.place_objectors-unknown.new.objectors _ c.place_objectors-unknown.ensures
       c.if-unknown-ne0.false,
-  repeated_card cs _ _ _ _ _ filed c.place_objectors-unknown.new.1.1.0 _ c.place_objectors-unknown.ensures
+  repeated_card cs _ _ _ _ _ filed c.place_objectors-unknown.new.objectors _ c.place_objectors-unknown.ensures
       c.if-unknown-ne0.false _ c.repeat_line-repeated.ensures
       c.if-repeated-ne0.true,
 )

@@ -4,7 +4,6 @@ use native.Mathlib.Omega.{arith}
 use Rattle.register.specs.declared.Line.{Line}
 use Rattle.mend_text.specs.declared.AnyLine.TheVariants.{Good}
 use Rattle.mend_text.proofs.Passing.{past_unended, past_spoiled, past_objection, past_statement}
-use Rattle.std.proofs.Common.{rules}
 use Rattle.mend_text.proofs.pass_statement.Goals as goal
 
 pub returns-in-Unended : goal.returns-in-Unended

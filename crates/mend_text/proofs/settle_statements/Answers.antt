@@ -1,12 +1,10 @@
 -- `settle_statements`: the invariant says what is settled of the lines passed, and which lines are left.
-use mathlib.Core.List.{List}
-use mathlib.Core.Path.{◌≡◌, refl, ◌∙◌}
-use Prim.Native.Nat.{◌-◌, ◌<◌}
+use mathlib.Core.Path.{refl, ◌∙◌}
+use Prim.Native.Nat.{◌<◌}
 use native.Mathlib.Omega.{arith}
 use lib.ListN.{length}
-use Rattle.mend.specs.TextLines.{TextLine}
 use Rattle.mend.proofs.TextLines.{lines_exist}
-use Rattle.mend_text.proofs.Loops.{Stating, fate_room, stating_first, stating_next, stating_last}
+use Rattle.mend_text.proofs.Loops.{fate_room, stating_first, stating_next, stating_last}
 use Rattle.std.proofs.Common.{rules}
 use Rattle.mend_text.proofs.settle_statements.Goals as goal
 

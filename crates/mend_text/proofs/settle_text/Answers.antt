@@ -1,7 +1,5 @@
 -- `settle_text` settles statements with an empty index, and then objections with that index.
-use native.Mathlib.Omega.{arith}
 use Rattle.register_index.proofs.Index.{indexed_none}
-use Rattle.std.proofs.Common.{rules}
 use Rattle.mend_text.proofs.settle_text.Goals as goal
 
 pub settle_statements-n-requires-clause-indexed : goal.settle_statements-n-requires-clause-indexed

@@ -1,11 +1,8 @@
 -- `tally`: the invariant is that the statements passed are counted.
-use mathlib.Core.Path.{◌≡◌, sym, ◌∙◌}
-use Prim.Native.Nat.{◌-◌, ◌≤◌, ◌<◌}
-use native.Mathlib.Omega.{arith}
-use lib.ListN.{length, length-set}
+use mathlib.Core.Path.{◌≡◌}
+use Prim.Native.Nat.{◌-◌, ◌≤◌}
+use lib.ListN.{length}
 use Rattle.sheet_code.specs.SheetParts.{Tallied}
-use Rattle.sheet_code.proofs.Totals.{total_none, total_few, tallied_more}
-use Rattle.sheet.proofs.Codes.{code_small}
 use Rattle.sheet_code.proofs.tally.Given as goal
 
 abbrev pub invariant-loop-x : goal.invariant-loop-x

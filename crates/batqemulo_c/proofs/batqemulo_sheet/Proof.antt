@@ -1,0 +1,23 @@
+-- `batqemulo_sheet` hands on what `text_sheet` promises, its answer in two numbers.
+use borrow.Author.Rules.{rules}
+use Rattle.batqemulo_c.proofs.batqemulo_sheet.Statement.{statement}
+use Rattle.batqemulo_c.proofs.batqemulo_sheet.Tie as tie
+
+text-sheet-requires : tie.Need-text-sheet-requires
+text-sheet-requires c κs = search rules
+
+in-c-requires : tie.Need-in-c-requires
+in-c-requires c κs = search rules
+
+same_length : tie.Need-same-length
+same_length c = search rules
+
+same-length-2 : tie.Need-same-length-2
+same-length-2 c = search rules
+
+returns : tie.Need-returns
+returns c = let call = c.before.before.before.before.before.text-sheet in (call.result, call.ensures, c.in_c.ensures)
+
+pub batqemulo-sheet-spec : {M : Type 1} → statement M
+batqemulo-sheet-spec =
+    tie.close (tie.spec text-sheet-requires in-c-requires same_length same-length-2 returns)

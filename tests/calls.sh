@@ -256,7 +256,10 @@ all_held() {
 }
 
 # copied: the sources that are looked at, in a folder of their own
-twin=$built/twin
+# apart: a folder that goes at the end, outside the repository, in which `rt ci` refuses sources that no crate has
+apart=$(mktemp -d)
+trap 'rm -rf "$apart"' EXIT
+twin=$apart/twin
 copied() { rm -rf "$twin" && mkdir -p "$twin/crates" && cp -r crates/batqemulo crates/promises crates/call_* "$twin/crates"; }
 
 copy_held() { copied && (cd "$twin" && all_held); }
@@ -331,7 +334,6 @@ try 'twin: a theorem that has its conclusion among the hypotheses is refused' re
 try 'twin: another head of a promise is refused' refused $labels 'MovesLabels : (marks from to' 'MovesLabels : (marks to from'
 try 'twin: a call without the theorem of its contract is refused' refused crates/batqemulo/proofs/Contracts.antt \
     'c-sheet.Learnt' 'text-sheet.Learnt'
-rm -rf "$twin"
 
 while read -r edit; do
     try "the edit $edit is there" edit_there "$edit"

@@ -75,11 +75,13 @@ try 'what a reader has to believe is what README lists' as_read
 try 'the definitions are found' test "$(tests/reading | grep -c '^ *[0-9]')" -ge 40
 
 # a small house: what stands in the wrong place, is only mentioned, or says nothing, is seen; what is right is not
-small=$built/small
-rm -rf "$small"
+# apart: a folder that goes at the end, outside the repository, in which `rt ci` refuses sources that no crate has
+apart=$(mktemp -d)
+trap 'rm -rf "$apart"' EXIT
+small=$apart/small
 mkdir -p "$small"/crates/house/{specs,proofs,src} "$small"/crates/garden "$small/docs"
 cat >"$small/crates/house/specs/Room.antt" <<'END'
-use Rattle·house·specs.specs.Wall.{Wall}
+use Rattle.house.specs.Wall.{Wall}
 
 pub record Room (w : Wall) : Type 0 where
   pub wide : ℕ
@@ -94,18 +96,18 @@ module _ (w : Wall) (has : Floor w) where
   pub part : (r : Room w) → Room w × Floor w
   part r = (r, has)
 
-  pub handed : (r : Room w) → 0 < r .wide → 0 < r .wide
+  pub handed : (r : Room w) → 0 < r.wide → 0 < r.wide
   handed r above = omega above
 
   pub hidden : (r : Whole w) → Valid r
   unfolding Whole
-  hidden r = r .inside .valid
+  hidden r = r.inside.valid
 
   pub behind : (r : Whole w) → Valid r
   behind = λ r. hidden r
 
   pub proved : (r : Whole w) → Valid r
-  proved r = law r (r .inside)
+  proved r = law r r.inside
 END
 cat >"$small/docs/PROMISES.md" <<'END'
 | sentence | what says it | where | what tries it |

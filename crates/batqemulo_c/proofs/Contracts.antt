@@ -1,5 +1,5 @@
 -- The contract of each public call is its promise, and so is that of the function that C calls in its place, by the answer in two
--- numbers: `contract-CALL` for each call. Neither asks anything of its caller. So what is proved of a promise, that it leaves one
+-- numbers: `contract_CALL` for each call. Neither asks anything of its caller. So what is proved of a promise, that it leaves one
 -- answer among it, is proved of the contracts. What the promises say is left to `promises`.
 use mathlib.Core.Path.{refl, ◌≡◌}
 use Rattle.answer.specs.InC.{InC}

@@ -1,6 +1,6 @@
 #!/usr/bin/env bash
-# The public calls: each that `batqemulo` names or `batqemulo_c` exports is looked up in its source, in docs/PROMISES.md and among the
-# theorems. Its parameters, its whole contract, the head of its promise and the theorem that the promise leaves one answer are
+# The public calls: each that `batqemulo` names or `batqemulo_c` exports is looked up in its source, in docs/PROMISES.md and among
+# the theorems. Its parameters, its whole contract, the head of its promise and the theorem that the promise leaves one answer are
 # held, word by word, against what tests/calls.txt makes of them. One that asks something of its caller, promises anything else or
 # nothing, has no row, or has no theorem that its contract is its promise, fails; so does an edit that PROMISES.md names and no
 # crate has. Wrong twins of the sources are held to the same, and each must fail. The very last line is 'N passed, M failed'.

@@ -1394,7 +1394,7 @@ if as_nobody true 2>/dev/null && ! as_nobody cat "$work/barred" >/dev/null 2>&1;
         try "$words, a file without permission" barred "batqemulo: $work/barred: " "${asking[@]}" "$work/barred"
         try "$words, a folder to work in without permission" \
             at_tmpdir "$work/shut" barred 'batqemulo: ' "${asking[@]}" "$work/game"
-        try "$words, a file with permission" allowed "${asking[@]}" "$work/both"
+        try "$words, a file with permission" allowed "${asking[@]}" "$work/$([ "$words" = uncatalogue ] && echo both || echo game)"
     done
     try 'a folder for a report, without permission' barred "$work/shut/report" mend "$work/game" --report "$work/shut/report"
     try 'sentences without permission' locked share/batqemulo/sentences.txt barred sentences.txt list "$work/game"
@@ -1483,8 +1483,9 @@ try 'an unknown mark' damaged 'S 1 X\n' 3 1 'S<tab>1<tab>X' mark
 try 'a mark of two letters' damaged 'S 1 RU\n' 3 1 'S<tab>1<tab>RU' mark
 try 'neither S nor O' damaged 'X 1 R\n' 3 1 'X<tab>1<tab>R' first
 try 'neither S nor O, and neither a number' damaged 'X y R\n' 3 1 'X<tab>y<tab>R' first digits/y
-try 'too many fields' damaged 'S 1 R x\n' 3 1 'S<tab>1<tab>R<tab>x' too-many
-try 'too many fields, those of a card' damaged 'S 1 R 5\n' 3 1 'S<tab>1<tab>R<tab>5' too-many card
+try 'too many fields' damaged 'S 1 R 5\n' 3 1 'S<tab>1<tab>R<tab>5' too-many
+try 'too many fields, and no number' damaged 'S 1 R x\n' 3 1 'S<tab>1<tab>R<tab>x' too-many
+try 'too many fields, those of a card' damaged 'S 1 R 5 7\n' 3 1 'S<tab>1<tab>R<tab>5<tab>7' too-many card
 try 'too many fields, those of a card with year numbers' \
     damaged 'S 1 R\nS 1987.14 U 1 1987.1\n' 3 2 'S<tab>1987.14<tab>U<tab>1<tab>1987.1' too-many card
 try 'too many fields of an objection' damaged 'S 1 R\nO 1 1 1\n' 3 2 'O<tab>1<tab>1<tab>1' too-many

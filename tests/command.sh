@@ -1394,7 +1394,9 @@ if as_nobody true 2>/dev/null && ! as_nobody cat "$work/barred" >/dev/null 2>&1;
         try "$words, a file without permission" barred "batqemulo: $work/barred: " "${asking[@]}" "$work/barred"
         try "$words, a folder to work in without permission" \
             at_tmpdir "$work/shut" barred 'batqemulo: ' "${asking[@]}" "$work/game"
-        try "$words, a file with permission" allowed "${asking[@]}" "$work/$([ "$words" = uncatalogue ] && echo both || echo game)"
+        # a register of three statements is no catalogue
+        [ "$words" = uncatalogue ] && name=both || name=game
+        try "$words, a file with permission" allowed "${asking[@]}" "$work/$name"
     done
     try 'a folder for a report, without permission' barred "$work/shut/report" mend "$work/game" --report "$work/shut/report"
     try 'sentences without permission' locked share/batqemulo/sentences.txt barred sentences.txt list "$work/game"

@@ -199,7 +199,7 @@ function outer_parts(text, parts,    count, i, depth, words, n) {
     return count
 }
 
-# hands_on CLAUSE NAME PARAMETERS DEEP: the right side has nothing but what the left side, a λ or the module binds, and fields of it
+# hands_on CLAUSE NAME PARAMETERS DEEP: the right side has nothing but what the left side, a λ or the module binds, or its fields
 function hands_on(clause, name, parameters, deep,    cut, left, right, count, words, i, bound, lambda, head, foreign, whole) {
     cut = index(clause, " = ")
     if (cut == 0 || index(clause, " where ")) return 0

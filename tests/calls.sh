@@ -300,7 +300,7 @@ names_said() {
 
 # name_there NAME: in a source or a test, or an edit
 name_there() {
-    grep -rqw --include='*.antt' --include='*.rt' --include='*.edit' --include='*.h' --include='*.sh' --include=ASSUMPTIONS.md \
+    grep -rqw --exclude-dir=out --include='*.antt' --include='*.rt' --include='*.edit' --include='*.h' --include='*.sh' --include=ASSUMPTIONS.md \
         -- "$1" crates include tests docs/ASSUMPTIONS.md || edit_there "$1"
 }
 

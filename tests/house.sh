@@ -84,7 +84,7 @@ definitions_apart() { definitions | grep -v -x 'Refuses lists' | apart; }
 
 # short_lines FOLDER: no line of Rattle or of a proof in it has more than 130 characters
 short_lines() {
-    ! LC_ALL=C.UTF-8 grep -r -n -E --include='*.rt' --include='*.antt' --include='*.edit' '^.{131,}' "$1"
+    ! LC_ALL=C.UTF-8 grep -r -n -E --exclude-dir=out --include='*.rt' --include='*.antt' --include='*.edit' '^.{131,}' "$1"
 }
 
 # long_line_seen: one of 131 characters would be seen, and one of 130, of whatever bytes, is none
@@ -105,7 +105,7 @@ meant_by() {
     esac
     LC_ALL=C grep -I -H -n -w "${patterns[@]}" "${files[@]}"
     LC_ALL=C grep -I -H -n -e "\(crates\{0,1\}\|edits\{0,1\} of\|[\`;] of\) \`$1\`" "${files[@]}"
-    LC_ALL=C grep -r -n -e "\b$1::" crates --include='*.rt' --include='*.edit'
+    LC_ALL=C grep -r -n -e "\b$1::" crates --exclude-dir=out --include='*.rt' --include='*.edit'
     case " ${quoted_crates[*]} " in
     *" $1 "*) LC_ALL=C grep -I -H -n -F -e "\`$1\`" "${files[@]}" ;;
     esac

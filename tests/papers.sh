@@ -11,15 +11,14 @@ tests=$PWD/tests
 # judged: a line for each thing that a row of docs/PROMISES.md, below the working folder, says of crates/ there
 judged() {
     local sources=() others=()
-    mapfile -t sources < <(find crates \( -path '*/specs/*.antt' -o -path '*/proofs/*.antt' -o -path '*/src/*.rt' \) \
-        ! -name Lib.antt)
-    mapfile -t others < <(find crates -name stdin -o -name stdout)
+    mapfile -t sources < <(find crates/*/{specs,proofs,src} \( -name '*.antt' -o -name '*.rt' \) ! -name Lib.antt 2>/dev/null)
+    mapfile -t others < <(find crates -mindepth 2 -maxdepth 2 \( -name stdin -o -name stdout \))
     awk -f "$tests/declared.awk" "${sources[@]}" |
         awk -v paper=docs/PROMISES.md -f "$tests/papers.awk" - "${sources[@]}" "${others[@]}" docs/PROMISES.md
 }
 
 # edits: a line for each must-fail edit: its name and its crate
-edits() { find crates -path '*/must-fail/*.edit' | sed 's|^crates/\(.*\)/must-fail/\(.*\)\.edit$|\2 \1|' | sort; }
+edits() { find crates/*/must-fail -name '*.edit' | sed 's|^crates/\(.*\)/must-fail/\(.*\)\.edit$|\2 \1|' | sort; }
 
 # cited_edit NAME: some row has it between backquotes, in its last column
 cited_edit() { sed -n 's/^|.*| \([^|]*\) |$/\1/p' docs/PROMISES.md | grep -q -F -e "\`$1\`"; }

@@ -1,5 +1,5 @@
 -- The contract of each public call is its promise, and so is that of the function that C calls in its place, by the answer in two
--- numbers: `contract-CALL` for each call. Neither asks anything of its caller. So what is proved of a promise, that it leaves one
+-- numbers: `contract_CALL` for each call. Neither asks anything of its caller. So what is proved of a promise, that it leaves one
 -- answer among it, is proved of the contracts. What the promises say is left to `promises`.
 use mathlib.Core.Path.{refl, ◌≡◌}
 use Rattle.answer.specs.InC.{InC}
@@ -47,26 +47,26 @@ use Rattle.call_sheet.proofs.text_sheet_update.Reads as text-sheet-update
 use Rattle.call_mend.proofs.text_mend.Reads as text-mend
 use Rattle.call_catalogue.proofs.text_catalogue.Reads as text-catalogue
 use Rattle.call_catalogue.proofs.catalogue_text.Reads as catalogue-text
-use Rattle.batqemulo.proofs.c.batqemulo_pairs_labels.Reads as c-pairs-labels
-use Rattle.batqemulo.proofs.c.batqemulo_pairs_lengths.Reads as c-pairs-lengths
-use Rattle.batqemulo.proofs.c.batqemulo_moves_labels.Reads as c-moves-labels
-use Rattle.batqemulo.proofs.c.batqemulo_moves_lengths.Reads as c-moves-lengths
-use Rattle.batqemulo.proofs.c.batqemulo_pairs_kinds.Reads as c-pairs-kinds
-use Rattle.batqemulo.proofs.c.batqemulo_pairs_line.Reads as c-pairs-line
-use Rattle.batqemulo.proofs.c.batqemulo_pairs_exercise.Reads as c-pairs-exercise
-use Rattle.batqemulo.proofs.c.batqemulo_text_labels.Reads as c-text-labels
-use Rattle.batqemulo.proofs.c.batqemulo_text_lengths.Reads as c-text-lengths
-use Rattle.batqemulo.proofs.c.batqemulo_listing.Reads as c-listing
-use Rattle.batqemulo.proofs.c.batqemulo_text_line.Reads as c-text-line
-use Rattle.batqemulo.proofs.c.batqemulo_text_exercise.Reads as c-text-exercise
-use Rattle.batqemulo.proofs.c.batqemulo_reason.Reads as c-reason
-use Rattle.batqemulo.proofs.c.batqemulo_sheet.Reads as c-sheet
-use Rattle.batqemulo.proofs.c.batqemulo_sheet_update.Reads as c-sheet-update
-use Rattle.batqemulo.proofs.c.batqemulo_mend.Reads as c-mend
-use Rattle.batqemulo.proofs.c.batqemulo_number.Reads as c-number
-use Rattle.batqemulo.proofs.c.batqemulo_number_text.Reads as c-number-text
-use Rattle.batqemulo.proofs.c.batqemulo_catalogue.Reads as c-catalogue
-use Rattle.batqemulo.proofs.c.batqemulo_uncatalogue.Reads as c-uncatalogue
+use Rattle.batqemulo_c.proofs.batqemulo_pairs_labels.Reads as c-pairs-labels
+use Rattle.batqemulo_c.proofs.batqemulo_pairs_lengths.Reads as c-pairs-lengths
+use Rattle.batqemulo_c.proofs.batqemulo_moves_labels.Reads as c-moves-labels
+use Rattle.batqemulo_c.proofs.batqemulo_moves_lengths.Reads as c-moves-lengths
+use Rattle.batqemulo_c.proofs.batqemulo_pairs_kinds.Reads as c-pairs-kinds
+use Rattle.batqemulo_c.proofs.batqemulo_pairs_line.Reads as c-pairs-line
+use Rattle.batqemulo_c.proofs.batqemulo_pairs_exercise.Reads as c-pairs-exercise
+use Rattle.batqemulo_c.proofs.batqemulo_text_labels.Reads as c-text-labels
+use Rattle.batqemulo_c.proofs.batqemulo_text_lengths.Reads as c-text-lengths
+use Rattle.batqemulo_c.proofs.batqemulo_listing.Reads as c-listing
+use Rattle.batqemulo_c.proofs.batqemulo_text_line.Reads as c-text-line
+use Rattle.batqemulo_c.proofs.batqemulo_text_exercise.Reads as c-text-exercise
+use Rattle.batqemulo_c.proofs.batqemulo_reason.Reads as c-reason
+use Rattle.batqemulo_c.proofs.batqemulo_sheet.Reads as c-sheet
+use Rattle.batqemulo_c.proofs.batqemulo_sheet_update.Reads as c-sheet-update
+use Rattle.batqemulo_c.proofs.batqemulo_mend.Reads as c-mend
+use Rattle.batqemulo_c.proofs.batqemulo_number.Reads as c-number
+use Rattle.batqemulo_c.proofs.batqemulo_number_text.Reads as c-number-text
+use Rattle.batqemulo_c.proofs.batqemulo_catalogue.Reads as c-catalogue
+use Rattle.batqemulo_c.proofs.batqemulo_uncatalogue.Reads as c-uncatalogue
 
 -- What is asked of a caller is nothing; and what the caller learns is the promise, of what was passed, of the answer and of the
 -- rooms at exit. It leaves one answer and one content of the rooms.

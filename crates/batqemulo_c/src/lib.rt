@@ -1,4 +1,7 @@
-// What C calls, by the names of include/batqemulo.h. Each function only turns the answer of a call into two numbers.
+// What C calls, by the names of include/batqemulo.h. Each function only turns the answer of a call into two numbers. None of it
+// asks anything of its caller. What other Rattle programs call is named in `batqemulo`.
+#![tactic(auto)]
+
 ghost use Rattle.answer.specs.InC.{InC};
 ghost use Rattle.promises.specs.LabelCalls.{PairsLabels, PairsLengths, MovesLabels, MovesLengths, TextLabels, TextLengths};
 ghost use Rattle.promises.specs.KindCalls.{PairsKinds};

@@ -8,7 +8,7 @@ use lists::ListsFault;
 use register::TextFault;
 
 // `Given` holds how many entries or bytes were written, or the answer itself.
-#[derive(Drop)]
+#[derive(Clone, Copy)]
 pub enum Answer {
     Refused(Refusal),
     Given(u32),
@@ -16,14 +16,14 @@ pub enum Answer {
 
 // The answer as C gets it: `refusal` is 0 where the call is accepted, else 01's number with its place as `value`.
 #[repr(C)]
-#[derive(Drop)]
+#[derive(Clone, Copy)]
 pub struct CAnswer {
     pub refusal: u32,
     pub value: u32,
 }
 
 // What a text or lists are refused for; or what is refused of them once they are accepted, with the place 0.
-#[derive(Drop)]
+#[derive(Clone, Copy)]
 pub enum Refusal {
     Text(TextFault),
     Lists(ListsFault),

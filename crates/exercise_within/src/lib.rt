@@ -74,6 +74,7 @@ pub fn falls_within(
 
 // Whether x stands within the turns.
 #[cycle(falls_within_stands_within)]
+#[tactic(auto, using(crate::proofs::Entries::stands_unread))]
 pub fn stands_within(
     marks: &[u8],
     objectors: &[u32],

@@ -3,7 +3,7 @@
 #![tactic(auto)]
 
 // The kind of an objection. A felling or delaying one holds its length.
-#[derive(Drop)]
+#[derive(Clone, Copy)]
 pub enum Kind {
     Idle,
     Felling(u16),

@@ -1,5 +1,5 @@
 -- Not for callers of the product: the verdict that the numbers of a label and a length say, and what is told of it.
-use Rattle.std.specs.Prelude.{Bool, true, false, ℕ, eqb, length}
+use Rattle.std.specs.Prelude.{Bool, true, false, ℕ, eqb}
 use Rattle.game.specs.Label.{Verdict, falls, stands, is_open}
 use Rattle.game.specs.Account.{Account, verdict_account}
 

@@ -3,7 +3,7 @@
 #![tactic(auto)]
 
 // 01's 11, 6, 9, 12, 13 and 8. A case holds its entry; the first three have none.
-#[derive(Drop)]
+#[derive(Clone, Copy)]
 pub enum ListsFault {
     Unequal,
     Statements,

@@ -83,7 +83,7 @@ stating_first s ls nums marks links fates p i = record {
           numbers_are = refl;
           marks_are = refl;
           objectors_are = refl;
-          targets-are
+          targets_are
               = refl;
         };
     valid = empty_valid;

@@ -47,12 +47,12 @@ module _ (s : List ℕ) (at : ℕ) (ls : List TextLine) (lines : LinesOf (drop a
   pub past_unended : at < length s → AnyLineAt s at Unended
       → StatementPassed s at ls S late (record { fate = 2; next = length s; statements = n; late = late }) nums marks links
   past_unended h u =
-      record { line = unended; passed = pass_unended s at ls lines h u; stated = stated; late_is = refl; fate-is = refl }
+      record { line = unended; passed = pass_unended s at ls lines h u; stated = stated; late_is = refl; fate_is = refl }
 
   pub past_spoiled : (next : ℕ) → AnyLineAt s at (Spoiled next)
       → StatementPassed s at ls S late (record { fate = 3; next = next; statements = n; late = late }) nums marks links
   past_spoiled next u =
-      record { line = spoiled; passed = pass_spoiled s at ls lines next u; stated = stated; late_is = refl; fate-is = refl }
+      record { line = spoiled; passed = pass_spoiled s at ls lines next u; stated = stated; late_is = refl; fate_is = refl }
 
   pub past_objection : (o : ObjectionLine) (next : ℕ) → AnyLineAt s at (Good (Objection o) next)
       → StatementPassed s at ls S late (record { fate = 0; next = next; statements = n; late = true }) nums marks links
@@ -61,7 +61,7 @@ module _ (s : List ℕ) (at : ℕ) (ls : List TextLine) (lines : LinesOf (drop a
     passed = pass_good s at ls lines (Objection o) next g;
     stated = stated;
     late_is = refl;
-    fate-is = refl;
+    fate_is = refl;
   }
 
   pub past_statement : (st : StatementLine) (next : ℕ) → AnyLineAt s at (Good (Statement st) next) → 1024 ≤ length nums
@@ -75,7 +75,7 @@ module _ (s : List ℕ) (at : ℕ) (ls : List TextLine) (lines : LinesOf (drop a
         passed = pass_good s at ls lines (Statement st) next g;
         stated = rw counted now-stated;
         late_is = refl;
-        fate-is = is ∙ ap (told_if late) e ∙ told_late late (settle_statement S st).0;
+        fate_is = is ∙ ap (told_if late) e ∙ told_late late (settle_statement S st).0;
       }
 
 -- While objections are settled.

@@ -4,46 +4,46 @@
 #![tactic(auto)]
 
 // A number of an acquisition, such as 1987.14: the year, and the serial within it.
-#[derive(Drop)]
+#[derive(Clone, Copy)]
 pub struct YearSerial {
     pub year: u32,
     pub serial: u32,
 }
 
 // A number has one of two forms.
-#[derive(Drop)]
+#[derive(Clone, Copy)]
 pub enum Form {
     Plain(u32),
     Year(YearSerial),
 }
 
-#[derive(Drop)]
+#[derive(Clone, Copy)]
 pub enum Mark {
     Read,
     Unread,
 }
 
-#[derive(Drop)]
+#[derive(Clone, Copy)]
 pub struct StatementLine {
     pub number: u32,
     pub mark: Mark,
 }
 
-#[derive(Drop)]
+#[derive(Clone, Copy)]
 pub struct ObjectionLine {
     pub objector: u32,
     pub target: u32,
 }
 
 // A line that was read is either a statement with its mark or an objection with its two numbers.
-#[derive(Drop)]
+#[derive(Clone, Copy)]
 pub enum Line {
     Statement(StatementLine),
     Objection(ObjectionLine),
 }
 
 // What a text can be refused for: 01's numbers 1 to 9. A case holds its line; the first two have none.
-#[derive(Drop)]
+#[derive(Clone, Copy)]
 pub enum TextFault {
     TooLong,
     Unended,

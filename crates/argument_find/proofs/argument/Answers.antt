@@ -1,0 +1,17 @@
+-- `argument` sizes the line by the length of x, and lends the chains and the room to `write`.
+use native.Mathlib.Omega.{arith}
+use Rattle.pair_chain.proofs.ChainSteps.{all_zero}
+use Rattle.argument_find.proofs.ArgumentSteps.{lined_short, lined_written}
+use Rattle.argument_find.proofs.argument.Goals as goal
+
+pub returns-then-room-n : goal.returns-then-room-n
+returns-then-room-n c =
+    lined_short _ _ _ _ _ c.requires.0 _ _ c.requires.1 c.turns-after.ensures _ _ c.wide-n.ensures (omega arith)
+
+pub chain-requires-clause-by_index_2 : goal.chain-requires-clause-by_index_2
+chain-requires-clause-by_index_2 c = λ x. all_zero 1024 x
+
+pub returns : goal.returns
+returns c =
+    lined_written _ _ _ _ _ c.requires.0 _ _ c.requires.1 c.turns-after.ensures _ _ _ c.wide-n.ensures c.if-room-n.false
+    c.write.ensures

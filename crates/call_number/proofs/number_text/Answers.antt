@@ -1,0 +1,7 @@
+-- `number_text` puts the number at the start of the room, if it is one and there is room for it.
+use native.Mathlib.Omega.{arith}
+use Rattle.register.proofs.Number.{number_small}
+use Rattle.call_number.proofs.number_text.Goals as goal
+
+pub overflow_cast-result : goal.overflow_cast-result
+overflow_cast-result c = omega (arith, c.number_size-size.ensures, number_small c.args.number)

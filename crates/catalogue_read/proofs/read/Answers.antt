@@ -1,0 +1,6 @@
+-- `read` settles rows 1 and 2, and leaves the lines to `read_cards`, with an empty index.
+use Rattle.register_index.proofs.Index.{indexed_none}
+use Rattle.catalogue_read.proofs.read.Goals as goal
+
+pub read_cards-requires-clause-indexed : goal.read_cards-requires-clause-indexed
+read_cards-requires-clause-indexed c = indexed_none _

@@ -1,0 +1,6 @@
+-- `settle_text` settles statements with an empty index, and then objections with that index.
+use Rattle.register_index.proofs.Index.{indexed_none}
+use Rattle.mend_text.proofs.settle_text.Goals as goal
+
+pub settle_statements-n-requires-clause-indexed : goal.settle_statements-n-requires-clause-indexed
+settle_statements-n-requires-clause-indexed c = indexed_none _

@@ -19,7 +19,6 @@ archive = target/staticlib/libbatqemulo.a
 shared = target/staticlib/libbatqemulo.so
 programs = list reason mend catalogue uncatalogue
 words = sentences.txt help.txt explain.awk clean.awk
-crates := crates.txt $(shell find crates -type f)
 
 # the calls, each of which gets a man page that leads to batqemulo.3
 calls := ${shell sed -n 's/^batqemulo_answer \(batqemulo_[a-z_]*\)(.*/\1/p' include/batqemulo.h}
@@ -33,13 +32,13 @@ installed = include/batqemulo.h lib/libbatqemulo.a lib/libbatqemulo.so.$(version
 
 all: $(archive) $(shared) programs
 
-$(archive): $(crates)
-	rt staticlib batqemulo
+# whether the library or a program is older than its sources, command/build knows best
+$(archive): always
+	command/build batqemulo_c
 
 $(shared): $(archive) include/batqemulo.h
 	bash -c '. tests/programs.sh && shared $(shared) $(soname) $(archive)'
 
-# whether a program is older than its sources, command/build knows best
 programs:
 	for name in $(programs); do command/build $$name || exit; done
 
@@ -74,8 +73,8 @@ uninstall:
 	for file in $(installed); do rm -f "$(to)/$$file" || exit; done
 
 clean:
-	rm -rf target
+	rm -rf target crates/*/out
 
 # rt proves one thing after the other
 .NOTPARALLEL:
-.PHONY: all programs check bench install uninstall clean
+.PHONY: all always programs check bench install uninstall clean

@@ -103,10 +103,11 @@ function guess_fields(fields, k) {
     for (k = 4; k <= fields && count < most; k++) guess_number(field[k])
 }
 
-# is_card FIELDS: whether these, which are more than three, are the fields of a card
+# is_card FIELDS: whether these, which are more than three, are the fields of a card with more than one objector; a statement with
+# one number too many is as likely a slip
 function is_card(fields, k) {
     for (k = 4; k <= fields; k++) if (!is_number(field[k])) return 0
-    return field[1] == "S" && is_number(field[2]) && field[3] ~ /^[RU]$/
+    return fields > 4 && field[1] == "S" && is_number(field[2]) && field[3] ~ /^[RU]$/
 }
 
 # guess_line: what is wrong with the line in `bytes`, which is spoiled or not ended

@@ -1,6 +1,6 @@
 #!/usr/bin/env bash
-# The public calls: each that `batqemulo` names or exports is looked up in its source, in docs/PROMISES.md and among the
-# theorems. Its parameters, its whole contract, the head of its promise and the theorem that the promise leaves one answer are
+# The public calls: each that `batqemulo` names or `batqemulo_c` exports is looked up in its source, in docs/PROMISES.md and among
+# the theorems. Its parameters, its whole contract, the head of its promise and the theorem that the promise leaves one answer are
 # held, word by word, against what tests/calls.txt makes of them. One that asks something of its caller, promises anything else or
 # nothing, has no row, or has no theorem that its contract is its promise, fails; so does an edit that PROMISES.md names and no
 # crate has. Wrong twins of the sources are held to the same, and each must fail. The very last line is 'N passed, M failed'.
@@ -11,8 +11,11 @@ cd "$(dirname "$0")/.." || exit 1
 
 # calls: a line for each public call: its name and the file of its source
 calls() {
-    sed -n 's/^pub use \([a-z_]*\)::\([a-z_]*\);$/\2 crates\/\1\/src\/lib.rt/p' crates/batqemulo/src/lib.rt
-    for file in crates/batqemulo/src/*.rt; do
+    local crate names name
+    while read -r crate names; do
+        for name in $names; do echo "$name crates/$crate/src/lib.rt"; done
+    done < <(sed -n 's/,//g; s/^pub use \([a-z_]*\)::{\{0,1\}\([a-z_ ]*\)}\{0,1\};$/\1 \2/p' crates/batqemulo/src/lib.rt)
+    for file in crates/batqemulo/src/*.rt crates/batqemulo_c/src/*.rt; do
         sed -n "s|^pub \(extern \"C\" \)\{0,1\}fn \([a-z_]*\)(.*|\2 $file|p" "$file"
     done
 }
@@ -33,16 +36,18 @@ each() {
 # lent WHEN: what the rooms hold, together where there are several
 lent() {
     local all
-    all=$(each 'now (' " $1), " "${rooms[@]}")
-    printf '(%s)' "${all%, }"
+    all=$(each '' "$1, " "${rooms[@]}")
+    all=${all%, }
+    [ ${#rooms[@]} = 1 ] || all="($all)"
+    printf '%s' "$all"
 }
 
-# contract_of ANSWER: what is promised of it, of what is passed and of the rooms at entry and at exit
+# contract_of ANSWER: what is promised of it, of what is passed and of the rooms before and after
 contract_of() {
-    printf '%s' "$promise" "$(each ' (now (' ' .entry))' "${lists[@]}")" "$(each ' ' '' "${numbers[@]}")"
-    [ ${#rooms[@]} = 0 ] || printf ' %s' "$(lent .entry)"
+    printf '%s' "$promise" "$(each ' ' .now "${lists[@]}")" "$(each ' ' '' "${numbers[@]}")"
+    [ ${#rooms[@]} = 0 ] || printf ' %s' "$(lent .old)"
     [ -z "$1" ] || printf ' %s' "$1"
-    [ ${#rooms[@]} = 0 ] || printf ' %s' "$(lent .exit)"
+    [ ${#rooms[@]} = 0 ] || printf ' %s' "$(lent .new)"
 }
 
 # claim PRIME: the promise as a theorem has it; the prime tells the second answer and rooms from the first
@@ -75,17 +80,15 @@ expect() {
         esac
 
         wanted[$name promise]=$promise
-        wanted[$promise applied]="$promise ${numbers[0]-} (now "
-        [ ${#lists[@]} = 0 ] || wanted[$promise applied]="$promise (now "
+        wanted[$promise applied]="$promise ${numbers[0]-} ${rooms[0]-}.now"
+        [ ${#lists[@]} = 0 ] || wanted[$promise applied]="$promise ${lists[0]}.now"
         wanted[$promise $result]=$name
         parameters="$(each '' ': list, ' "${lists[@]}")$(each '' ': number, ' "${numbers[@]}")$(each '' ': room, ' "${rooms[@]}")"
 
-        # a name with a low line is quoted in a clause
-        for text in "${!rooms[@]}"; do [[ ${rooms[text]} != *_* ]] || rooms[text]="«${rooms[text]}»"; done
         case $result,${#rooms[@]} in
-        Answer,*) text="λ a. ⌜ $(contract_of a) ⌝" ;;
-        CAnswer,0) text="λ c. ⌜ InC ($(contract_of '')) c ⌝" ;;
-        CAnswer,*) text="λ c. ⌜ InC (λ a. $(contract_of a)) c ⌝" ;;
+        Answer,*) text=$(contract_of result) ;;
+        CAnswer,0) text="InC ($(contract_of '')) result" ;;
+        CAnswer,*) text="InC (λ a. $(contract_of a)) result" ;;
         esac
         wanted[$name contract]="fn $name(${parameters%, }) -> $result ensures { $text }"
 
@@ -93,12 +96,12 @@ expect() {
         bound=("${lists[@]/#text/s}")
         text="$(each '(' ' : List ℕ) ' "${bound[@]}")$(each '(' ' : ℕ) ' "${numbers[@]}")"
         [ ${#rooms[@]} = 0 ] || text+="($room : $type) "
-        text+="($answer : $result) ($answer′ : $result) "
-        [ ${#rooms[@]} = 0 ] || text+="(after : $type) (after′ : $type) "
-        text+="→ $(claim '') → $(claim ′) → "
+        text+="($answer : $result) ($answer' : $result) "
+        [ ${#rooms[@]} = 0 ] || text+="(after : $type) (after' : $type) "
+        text+="→ $(claim '') → $(claim "'") → "
         case ${#rooms[@]} in
-        0) text+="$answer ≡ $answer′" ;;
-        *) text+="($answer ≡ $answer′) × (after ≡ after′)" ;;
+        0) text+="$answer ≡ $answer'" ;;
+        *) text+="($answer ≡ $answer') × (after ≡ after')" ;;
         esac
         wanted[$name unique]=$text
 
@@ -186,12 +189,12 @@ statements() {
 # look: takes the sources in. What stands twice under one name is put together, and is then not what is wanted.
 declare -A found
 look() {
-    local key text name file promises=(crates/promises/specs/*.antt) sources=(crates/batqemulo/src/*.rt crates/call_*/src/*.rt)
+    local key text name file promises=(crates/promises/specs/*.antt) sources=(crates/batqemulo*/src/*.rt crates/call_*/src/*.rt)
     found=()
     while IFS=@ read -r key text; do
         found[$key]+=$text
     done < <(heads "${sources[@]}" && names_taken "${sources[@]}" && statements "${promises[@]}" \
-        crates/promises/proofs/Unique*.antt crates/batqemulo/proofs/Contracts.antt)
+        crates/promises/proofs/Unique*.antt crates/batqemulo_c/proofs/Contracts.antt)
     while read -r name file; do
         found[$name file]=$file
     done < <(calls)
@@ -200,7 +203,7 @@ look() {
         found[$key module]+=${file%.antt}
     done < <(grep -H -o 'pub [A-Z][A-Za-z]* :' "${promises[@]}" | sed 's/pub //; s/ :$//')
     found['Lent is']=$(grep -h '^Lent = ' "${promises[@]}")
-    found[Contracts]=$(<crates/batqemulo/proofs/Contracts.antt)
+    found[Contracts]=$(<crates/batqemulo_c/proofs/Contracts.antt)
 }
 
 # ---- the one held against the other
@@ -217,8 +220,8 @@ asks_nothing() { [[ $(head_of "$1") != *requires* ]]; }
 contract_held() {
     local promise=${wanted[$1 promise]-none} file=${found[$1 file]-}
     same "${wanted[$1 contract]-}" "$(head_of "$1")" &&
-        same "Rattle·promises.specs.${found[$promise module]-}" "${found[$file $promise]-}" &&
-        { [[ $1 != batqemulo_* ]] || same Rattle·answer.specs.InC "${found[$file InC]-}"; }
+        same "Rattle.promises.specs.${found[$promise module]-}" "${found[$file $promise]-}" &&
+        { [[ $1 != batqemulo_* ]] || same Rattle.answer.specs.InC "${found[$file InC]-}"; }
 }
 
 promise_held() {
@@ -226,7 +229,7 @@ promise_held() {
     same "${wanted[$promise head]-}" "${found[$promise]-}" && same "${wanted[Lent is]}" "${found[Lent is]}"
 }
 
-unique_held() { same "${wanted[$1 unique]-}" "${found[unique-${1//_/-}]-}"; }
+unique_held() { same "${wanted[$1 unique]-}" "${found[unique_$1]-}"; }
 
 # theorem_held NAME: the theorem of the call that its contract is the promise, and that of the function of C too, is there
 theorem_held() {
@@ -235,13 +238,13 @@ theorem_held() {
     function=${wanted[$promise CAnswer]-}
     crate=${found[$call file]-}
     crate=${crate#crates/}
-    said=${found[contract-${call//_/-}]-}
+    said=${found[contract_$call]-}
     call=${call//_/-}
     function=c-${function#batqemulo_}
     function=${function//_/-}
     has "$said" "InRattleAndC $call.Asked $call.Learnt $function.Asked $function.Learnt (λ κs " && has "$said" " ${wanted[$promise applied]-none}" &&
-        has "${found[Contracts]}" "use Rattle·${crate%%/*}.proofs.${wanted[$promise Answer]}.Reads as $call" &&
-        has "${found[Contracts]}" "use Rattle·batqemulo·proofs.proofs.c.${wanted[$promise CAnswer]}.Reads as $function"
+        has "${found[Contracts]}" "use Rattle.${crate%%/*}.proofs.${wanted[$promise Answer]}.Reads as $call" &&
+        has "${found[Contracts]}" "use Rattle.batqemulo_c.proofs.${wanted[$promise CAnswer]}.Reads as $function"
 }
 
 has() { [[ $1 == *"$2"* ]] || { printf 'not there: %s\nin: %s\n' "$2" "$1" && false; }; }
@@ -255,9 +258,16 @@ all_held() {
     done < <(calls)
 }
 
+# apart: a folder that goes at the end, outside the repository, in which `rt ci` refuses sources that no crate has
+apart=$(mktemp -d)
+trap 'rm -rf "$apart"' EXIT
+twin=$apart/twin
+
 # copied: the sources that are looked at, in a folder of their own
-twin=$built/twin
-copied() { rm -rf "$twin" && mkdir -p "$twin/crates" && cp -r crates/batqemulo crates/promises crates/call_* "$twin/crates"; }
+copied() {
+    rm -rf "$twin" && mkdir -p "$twin" &&
+        cp -r --parents crates/batqemulo*/src crates/call_*/src crates/promises/{specs,proofs} crates/batqemulo_c/proofs "$twin"
+}
 
 copy_held() { copied && (cd "$twin" && all_held); }
 
@@ -285,12 +295,12 @@ edits_named() {
 # names_said: every name that PROMISES.md has between backquotes, a field by itself
 names_said() {
     grep -o '`[^`]*`' docs/PROMISES.md | tr -d '`' | tr ' ' '\n' | sed 's/^\.//; s/^(//; s/)$//' |
-        grep -x '[A-Za-z][A-Za-z0-9_′-]*[A-Za-z0-9_′]' | sort -u
+        grep -x "[A-Za-z][A-Za-z0-9_'-]*[A-Za-z0-9_']" | sort -u
 }
 
 # name_there NAME: in a source or a test, or an edit
 name_there() {
-    grep -rqw --include='*.antt' --include='*.rt' --include='*.edit' --include='*.h' --include='*.sh' --include=ASSUMPTIONS.md \
+    grep -rqw --exclude-dir=out --include='*.antt' --include='*.rt' --include='*.edit' --include='*.h' --include='*.sh' --include=ASSUMPTIONS.md \
         -- "$1" crates include tests docs/ASSUMPTIONS.md || edit_there "$1"
 }
 
@@ -308,30 +318,30 @@ while read -r name file; do
     try "$name has a theorem that its contract is its promise" theorem_held "$name"
 done < <(calls)
 
-source=crates/batqemulo/src/c.rt
+source=crates/batqemulo_c/src/lib.rt
 labels=crates/promises/specs/LabelCalls.antt
 try 'a copy of the sources is held' copy_held
 try 'twin: moves for pairs, and a contract that says nothing, are refused' refused $source \
     'call_labels_lists::pairs_labels(' 'call_labels_lists::moves_labels(' \
-    'InC (λ a. PairsLabels' '(InC (λ a. PairsLabels' '(now (labels .exit))) c ⌝' '(now (labels .exit))) c → c ≡ c) ⌝'
-try 'twin: the contract of another call is refused' refused crates/call_labels_text/src/lib.rt '⌜ TextLengths' '⌜ TextLabels'
-try 'twin: the bytes of another code are refused' refused crates/call_number/src/lib.rt '⌜ NumberText number' '⌜ NumberText 7'
+    'InC (λ a. PairsLabels' '(InC (λ a. PairsLabels' '    labels.old a labels.new) result }' \
+    '    labels.old a labels.new) result) → result ≡ result }'
+try 'twin: the contract of another call is refused' refused crates/call_labels_text/src/lib.rt '{ TextLengths' '{ TextLabels'
+try 'twin: the bytes of another code are refused' refused crates/call_number/src/lib.rt '{ NumberText number' '{ NumberText 7'
 try 'twin: lists exchanged in a contract are refused' refused crates/call_kinds/src/lib.rt \
-    'PairsKinds (now (marks .entry)) (now (objectors .entry)) (now (targets .entry))' \
-    'PairsKinds (now (marks .entry)) (now (targets .entry)) (now (objectors .entry))'
+    'PairsKinds marks.now objectors.now targets.now' 'PairsKinds marks.now targets.now objectors.now'
 try 'twin: another promise by the same name is refused' refused $source '{PairsKinds}' '{Objections as PairsKinds}'
 try 'twin: a second clause is refused' refused crates/call_listing/src/lib.rt \
-    '(now (room .exit)) ⌝ }' '(now (room .exit)) ⌝ } ensures { λ a. ⌜ Unit {0} ⌝ }'
+    'ensures { TextListing text.now room.old result room.new }' \
+    'ensures listed { TextListing text.now room.old result room.new } ensures more { Unit {0} }'
 try 'twin: a demand on the caller is refused' refused crates/call_mend/src/lib.rt \
-    'ensures { λ a. ⌜ TextMend' 'requires { ⌜ ⊥ ⌝ } ensures { λ a. ⌜ TextMend'
+    'ensures { TextMend' 'requires { ⊥ } ensures { TextMend'
 try 'twin: a theorem of one answer and any rooms is refused' refused crates/promises/proofs/UniqueListing.antt \
-    '→ (a ≡ a′) × (after ≡ after′)' '→ (a ≡ a′) × (after ≡ after)'
+    "→ (a ≡ a') × (after ≡ after')" "→ (a ≡ a') × (after ≡ after)"
 try 'twin: a theorem that has its conclusion among the hypotheses is refused' refused crates/promises/proofs/UniqueInC.antt \
-    'InC (λ a. TextMend s lent a after′) c′ →' 'InC (λ a. TextMend s lent a after′) c′ → (c ≡ c′) × (after ≡ after′) →'
+    "InC (λ a. TextMend s lent a after') c' →" "InC (λ a. TextMend s lent a after') c' → (c ≡ c') × (after ≡ after') →"
 try 'twin: another head of a promise is refused' refused $labels 'MovesLabels : (marks from to' 'MovesLabels : (marks to from'
-try 'twin: a call without the theorem of its contract is refused' refused crates/batqemulo/proofs/Contracts.antt \
+try 'twin: a call without the theorem of its contract is refused' refused crates/batqemulo_c/proofs/Contracts.antt \
     'c-sheet.Learnt' 'text-sheet.Learnt'
-rm -rf "$twin"
 
 while read -r edit; do
     try "the edit $edit is there" edit_there "$edit"

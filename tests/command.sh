@@ -1026,7 +1026,7 @@ below() {
         names=$more
         more=$(for name in $names; do
             echo "$name"
-            sed -n "s/^$name://p" crates.txt | tr ' ' '\n'
+            sed -n "s/^$name\( staticlib\)\{0,1\}://p" crates.txt | tr ' ' '\n'
         done | sort -u | while read -r name; do [ ! -d "crates/${name:-.none}" ] || echo "$name"; done)
     done
     printf '%s\n' "$names"
@@ -1048,14 +1048,15 @@ lay_copy() {
 case \$1 in
 doc) echo '$(rt doc)'; exit ;;
 esac
-echo "begin \$2" >>'$prover/calls'
+crate=\$(basename "\$PWD")
+echo "begin \$crate" >>'$prover/calls'
 echo 'the words of the prover'
-while read -r crate; do echo "rt: \$crate proved (1 s)"; done <"$prover/\$2.crates"
+while read -r name; do echo "crate \$name: modules loaded=0 checked=1"; done <"$prover/\$crate.crates"
 sleep 0.3
-mkdir -p target/bin
-[ ! -e '$prover/edits' ] || touch crates/game/src/lib.rt
-[ -e '$prover/fails' ] || cp "$prover/\$2" "target/bin/\$2"
-echo "end \$2" >>'$prover/calls'
+mkdir -p out
+[ ! -e '$prover/edits' ] || touch ../game/src/lib.rt
+[ -e '$prover/fails' ] || cp "$prover/\$crate" "out/\$crate"
+echo "end \$crate" >>'$prover/calls'
 [ ! -e '$prover/fails' ]
 END
     chmod 755 "$prover/rt"
@@ -1104,7 +1105,7 @@ builds_unheard() {
 builds_first() {
     local count
     count=$(wc -l <"$prover/program_list.crates")
-    rm -rf "$copy/target"
+    rm -rf "$copy/target" "$copy"/crates/*/out
     : >"$prover/calls"
     build command/build list
     ends 0 && nothing "$work/out" && [ "$(calls)" -eq 1 ] && [ "$(wc -l <"$work/said")" -eq 2 ] &&
@@ -1118,12 +1119,12 @@ builds_first() {
 stands_on_less() {
     below program_list >"$work/crates"
     grep -q -x call_listing "$work/crates" && grep -q -x game "$work/crates" &&
-        ! grep -x -e call_mend -e batqemulo "$work/crates"
+        ! grep -x -e call_mend -e batqemulo -e batqemulo_c "$work/crates"
 }
 
 # starts_what_is_built WORDS..: the program is built and started at once; what is printed is the listing alone
 starts_what_is_built() {
-    rm -f "$copy/target/bin/program_list"
+    rm -f "$copy"/{target/bin,crates/program_list/out}/program_list
     build "$@" <examples/game.txt
     ends 0 && cmp "$work/out" examples/game.listing && grep -q 'proved and built first' "$work/said"
 }
@@ -1161,7 +1162,7 @@ notices_overlap() {
 # one_after_the_other NAMES..: programs whose building is started at once
 one_after_the_other() {
     local name
-    rm -rf "$copy/target"
+    rm -rf "$copy/target" "$copy"/crates/*/out
     : >"$prover/calls"
     for name in "$@"; do
         (cd "$copy" && PATH=$prover:$PATH command/build "$name") &
@@ -1178,7 +1179,7 @@ both() { one_after_the_other mend list && [ "$(calls)" -eq 2 ]; }
 
 # without_rt WORDS..: in the copy, where there is no prover, all is over at once, with one sentence
 without_rt() {
-    rm -rf "$copy/target"
+    rm -rf "$copy/target" "$copy"/crates/*/out
     (cd "$copy" && with_tools timeout 20 "$@") >"$work/out" 2>"$work/said" <examples/game.txt
     status=$?
     ends "$status" && [ "$status" -ne 0 ] && [ "$status" -ne 124 ] && nothing "$work/out" &&
@@ -1393,7 +1394,9 @@ if as_nobody true 2>/dev/null && ! as_nobody cat "$work/barred" >/dev/null 2>&1;
         try "$words, a file without permission" barred "batqemulo: $work/barred: " "${asking[@]}" "$work/barred"
         try "$words, a folder to work in without permission" \
             at_tmpdir "$work/shut" barred 'batqemulo: ' "${asking[@]}" "$work/game"
-        try "$words, a file with permission" allowed "${asking[@]}" "$work/both"
+        # a register of three statements is no catalogue
+        [ "$words" = uncatalogue ] && name=both || name=game
+        try "$words, a file with permission" allowed "${asking[@]}" "$work/$name"
     done
     try 'a folder for a report, without permission' barred "$work/shut/report" mend "$work/game" --report "$work/shut/report"
     try 'sentences without permission' locked share/batqemulo/sentences.txt barred sentences.txt list "$work/game"
@@ -1482,8 +1485,9 @@ try 'an unknown mark' damaged 'S 1 X\n' 3 1 'S<tab>1<tab>X' mark
 try 'a mark of two letters' damaged 'S 1 RU\n' 3 1 'S<tab>1<tab>RU' mark
 try 'neither S nor O' damaged 'X 1 R\n' 3 1 'X<tab>1<tab>R' first
 try 'neither S nor O, and neither a number' damaged 'X y R\n' 3 1 'X<tab>y<tab>R' first digits/y
-try 'too many fields' damaged 'S 1 R x\n' 3 1 'S<tab>1<tab>R<tab>x' too-many
-try 'too many fields, those of a card' damaged 'S 1 R 5\n' 3 1 'S<tab>1<tab>R<tab>5' too-many card
+try 'too many fields' damaged 'S 1 R 5\n' 3 1 'S<tab>1<tab>R<tab>5' too-many
+try 'too many fields, and no number' damaged 'S 1 R x\n' 3 1 'S<tab>1<tab>R<tab>x' too-many
+try 'too many fields, those of a card' damaged 'S 1 R 5 7\n' 3 1 'S<tab>1<tab>R<tab>5<tab>7' too-many card
 try 'too many fields, those of a card with year numbers' \
     damaged 'S 1 R\nS 1987.14 U 1 1987.1\n' 3 2 'S<tab>1987.14<tab>U<tab>1<tab>1987.1' too-many card
 try 'too many fields of an objection' damaged 'S 1 R\nO 1 1 1\n' 3 2 'O<tab>1<tab>1<tab>1' too-many
@@ -1851,6 +1855,9 @@ try 'with CDPATH' listed_as examples/game.listing env CDPATH="$stage:$here" "$co
 try 'with hardly an environment' \
     listed_as examples/game.listing env -i PATH="$PATH" TMPDIR="$TMPDIR" "$command" list "$work/game"
 try 'started from PATH' listed_as examples/game.listing env PATH="$stage/bin:$PATH" batqemulo list "$work/game"
+for name in "${programs[@]}"; do
+    try "./$name is a copy of ./list" cmp list "$name"
+done
 try './list, through a link' listed_by "$stage/links/list"
 try './list, through a link to a link' listed_by ./to_list
 try './list, from another folder' listed_by "$here/list"
@@ -1892,10 +1899,11 @@ try 'it is built again where a source below it is newer' builds touch crates/gam
 try 'it is built again where crates.txt is newer' builds touch crates.txt
 try 'it is built again where a source is gone' builds rm crates/register/src/lib.rt
 try 'it is built again where a source has come' builds touch crates/register/src/lib.rt
-try 'it is built again where it is gone' builds rm target/bin/program_list
+try 'it is built again where it is gone' builds rm target/bin/program_list crates/program_list/out/program_list
+try 'it is taken where rt has left it' leaves rm target/bin/program_list
 try 'it is not built again for a call that mends' leaves touch crates/call_mend/src/lib.rt
 try 'it is not built again for another program' leaves touch crates/program_mend/src/main.rt
-try 'it is not built again for the whole product' leaves touch crates/batqemulo/src/lib.rt
+try 'it is not built again for the whole product' leaves touch crates/batqemulo/src/lib.rt crates/batqemulo_c/src/lib.rt
 try 'it is built again where a source was edited while it was built' edited_meanwhile
 try 'it is built where nobody listens' builds_unheard
 try 'a build too many would be noticed' fails leaves touch crates/game/src/lib.rt

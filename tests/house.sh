@@ -8,7 +8,7 @@ cd "$(dirname "$0")/.." || exit 1
 . tests/tally.sh
 
 # nouns: what a compound may begin with, beside the meanings
-nouns=(label argument exercise pair room call program bench)
+nouns=(label argument exercise pair room call program bench batqemulo)
 
 # gone WHICH: names that crates had, and that none has now, as the landing's note tells them: `only` those that name nothing
 # else, so that they mean the crate where they stand between backquotes, or `also` the others
@@ -18,13 +18,13 @@ mapfile -t quoted_crates < <(gone only)
 mapfile -t gone < <(gone only && gone also)
 
 # files: all that is kept, but for what tells of the past
-mapfile -d '' files < <(find . \( -name .git -o -name target -o -path ./docs/landings \) -prune -o \
+mapfile -d '' files < <(find . \( -name .git -o -name target -o -path './crates/*/out' -o -path ./docs/landings \) -prune -o \
     -type f ! -path ./docs/DECISIONS.md -print0)
 
 # crates: those that crates.txt lists; below NAME: those that it lists below one
-crates() { sed -n 's/^\([a-z][a-z_]*\):.*/\1/p' crates.txt; }
+crates() { sed -n 's/^\([a-z][a-z_]*\)\( staticlib\)\{0,1\}:.*/\1/p' crates.txt; }
 
-below() { sed -n "s/^$1://p" crates.txt | tr -s ' ' '\n' | grep .; }
+below() { sed -n "s/^$1\( staticlib\)\{0,1\}://p" crates.txt | tr -s ' ' '\n' | grep .; }
 
 meanings() { crates | grep -v -e _ -e '^batqemulo$'; }
 
@@ -32,8 +32,8 @@ compounds() { crates | grep _; }
 
 folders() { find crates -mindepth 1 -maxdepth 1 -type d -printf '%f\n' | sort; }
 
-# all_understood: every line of crates.txt is blank, a remark, or a crate and what it stands on
-all_understood() { ! grep -v -x -e '#.*' -e '[a-z][a-z_]*:\( [a-z][a-z_]*\)*' -e '' crates.txt; }
+# all_understood: every line of crates.txt is blank, a remark, or a crate, or a static library, and what it stands on
+all_understood() { ! grep -v -x -e '#.*' -e '[a-z][a-z_]*\( staticlib\)\{0,1\}:\( [a-z][a-z_]*\)*' -e '' crates.txt; }
 
 listed_once() { ! crates | sort | uniq -d | grep .; }
 
@@ -84,27 +84,28 @@ definitions_apart() { definitions | grep -v -x 'Refuses lists' | apart; }
 
 # short_lines FOLDER: no line of Rattle or of a proof in it has more than 130 characters
 short_lines() {
-    ! LC_ALL=C.UTF-8 grep -r -n -E --include='*.rt' --include='*.antt' --include='*.edit' '^.{131,}' "$1"
+    ! LC_ALL=C.UTF-8 grep -r -n -E --exclude-dir=out --include='*.rt' --include='*.antt' --include='*.edit' '^.{131,}' "$1"
 }
 
 # long_line_seen: one of 131 characters would be seen, and one of 130, of whatever bytes, is none
 long_line_seen() {
-    local folder=$built/lines
+    local folder=$apart/lines
     mkdir -p "$folder" && printf '≤%.0s' {1..130} >"$folder/long.rt" && short_lines "$folder" &&
         printf '≤' >>"$folder/long.rt" && ! short_lines "$folder"
 }
 
 # meant_by NAME: the lines in which the name can only be that of a crate: a path, or the end of a branch in a drawn tree; a
-# compound, wherever it stands, but for `in_c`, which is a function too; the words of PROMISES.md for whose an edit is; code
+# compound, wherever it stands, but for four that are names of functions or definitions too; the words of PROMISES.md for whose an
+# edit is; code
 meant_by() {
-    local patterns=(-e "Rattle·$1" -e "crates/$1" -e "$1/\(specs\|proofs\|src\|must-fail\|stdin\|stdout\)" -e "── $1")
+    local patterns=(-e "Rattle\.$1" -e "crates/$1" -e "$1/\(specs\|proofs\|src\|must-fail\|stdin\|stdout\)" -e "── $1")
     case $1 in
-    in_c) ;;
+    in_c | filled_sheet | on_lists | on_text) ;;
     *_*) patterns+=(-e "$1") ;;
     esac
     LC_ALL=C grep -I -H -n -w "${patterns[@]}" "${files[@]}"
     LC_ALL=C grep -I -H -n -e "\(crates\{0,1\}\|edits\{0,1\} of\|[\`;] of\) \`$1\`" "${files[@]}"
-    LC_ALL=C grep -r -n -e "\b$1::" crates --include='*.rt' --include='*.edit'
+    LC_ALL=C grep -r -n -e "\b$1::" crates --exclude-dir=out --include='*.rt' --include='*.edit'
     case " ${quoted_crates[*]} " in
     *" $1 "*) LC_ALL=C grep -I -H -n -F -e "\`$1\`" "${files[@]}" ;;
     esac
@@ -137,6 +138,9 @@ try 'no module has its name in two crates' modules_apart
 try 'there are definitions' test "$(definitions | wc -l)" -ge 350
 try 'no definition has its name in two crates' definitions_apart
 
+# apart: a folder that goes at the end, outside the repository, in which `rt ci` refuses sources that no crate has
+apart=$(mktemp -d)
+trap 'rm -rf "$apart"' EXIT
 try 'no line is too long' short_lines crates
 try 'a line that is too long would be seen' long_line_seen
 

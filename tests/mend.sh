@@ -244,15 +244,18 @@ cp examples/quilt.txt "$work/there"
 cp examples/quilt.txt "$work/shut" && chmod 0 "$work/shut"
 : >"$work/empty"
 mkdir -p "$work/folder"
-ln -sfn there "$work/link"
-ln -sfn nowhere "$work/dangling"
+# apart: a folder that goes at the end, outside the repository, in which `rt ci` refuses links
+apart=$(mktemp -d)
+trap 'rm -rf "$apart"' EXIT
+ln -s "$PWD/$work/there" "$apart/link"
+ln -s nowhere "$apart/dangling"
 [ -p "$work/queue" ] || mkfifo "$work/queue"
-for name in there shut empty folder link dangling queue; do
-    try "a report where something is: $name" stays "$work/$name"
+for name in "$work"/{there,shut,empty,folder,queue} "$apart"/{link,dangling}; do
+    try "a report where something is: ${name##*/}" stays "$name"
 done
 try 'a report where a device is' stays /dev/full
 try 'a report where the folder itself is' stays .
-try 'nothing came of the dangling link' test ! -e "$work/nowhere"
+try 'nothing came of the dangling link' test ! -e "$apart/nowhere"
 try 'the command by which a register was once lost' as_typed
 try 'a new report may be read by all' for_all_to_read
 try 'a name with strange bytes' named "$work/a b"$'\n\xff'

@@ -199,8 +199,8 @@ function outer_parts(text, parts,    count, i, depth, words, n) {
     return count
 }
 
-# hands_on CLAUSE NAME PARAMETERS DEEP: the right side has nothing but what the left side, a λ or the module binds
-function hands_on(clause, name, parameters, deep,    cut, left, right, count, words, i, bound, lambda, head, foreign) {
+# hands_on CLAUSE NAME PARAMETERS DEEP: the right side has nothing but what the left side, a λ or the module binds, or its fields
+function hands_on(clause, name, parameters, deep,    cut, left, right, count, words, i, bound, lambda, head, foreign, whole) {
     cut = index(clause, " = ")
     if (cut == 0 || index(clause, " where ")) return 0
     left = parameters " " substr(clause, 1, cut)
@@ -215,7 +215,10 @@ function hands_on(clause, name, parameters, deep,    cut, left, right, count, wo
         else if (lambda) {
             if (sub(/\.$/, "", words[i])) lambda = 0
             bound[words[i]]
-        } else if (words[i] !~ /^\./ && !(words[i] in bound)) {
+        } else {
+            whole = words[i]
+            sub(/\..*/, "", whole)
+            if (whole == "" || whole in bound) continue
             foreign++
             head = words[i]
         }

@@ -11,15 +11,14 @@ tests=$PWD/tests
 # judged: a line for each thing that a row of docs/PROMISES.md, below the working folder, says of crates/ there
 judged() {
     local sources=() others=()
-    mapfile -t sources < <(find crates \( -path '*/specs/*.antt' -o -path '*/proofs/*.antt' -o -path '*/src/*.rt' \) \
-        ! -name Lib.antt)
-    mapfile -t others < <(find crates -name stdin -o -name stdout)
+    mapfile -t sources < <(find crates/*/{specs,proofs,src} \( -name '*.antt' -o -name '*.rt' \) ! -name Lib.antt 2>/dev/null)
+    mapfile -t others < <(find crates -mindepth 2 -maxdepth 2 \( -name stdin -o -name stdout \))
     awk -f "$tests/declared.awk" "${sources[@]}" |
         awk -v paper=docs/PROMISES.md -f "$tests/papers.awk" - "${sources[@]}" "${others[@]}" docs/PROMISES.md
 }
 
 # edits: a line for each must-fail edit: its name and its crate
-edits() { find crates -path '*/must-fail/*.edit' | sed 's|^crates/\(.*\)/must-fail/\(.*\)\.edit$|\2 \1|' | sort; }
+edits() { find crates/*/must-fail -name '*.edit' | sed 's|^crates/\(.*\)/must-fail/\(.*\)\.edit$|\2 \1|' | sort; }
 
 # cited_edit NAME: some row has it between backquotes, in its last column
 cited_edit() { sed -n 's/^|.*| \([^|]*\) |$/\1/p' docs/PROMISES.md | grep -q -F -e "\`$1\`"; }
@@ -75,11 +74,13 @@ try 'what a reader has to believe is what README lists' as_read
 try 'the definitions are found' test "$(tests/reading | grep -c '^ *[0-9]')" -ge 40
 
 # a small house: what stands in the wrong place, is only mentioned, or says nothing, is seen; what is right is not
-small=$built/small
-rm -rf "$small"
+# apart: a folder that goes at the end, outside the repository, in which `rt ci` refuses sources that no crate has
+apart=$(mktemp -d)
+trap 'rm -rf "$apart"' EXIT
+small=$apart/small
 mkdir -p "$small"/crates/house/{specs,proofs,src} "$small"/crates/garden "$small/docs"
 cat >"$small/crates/house/specs/Room.antt" <<'END'
-use Rattle·house·specs.specs.Wall.{Wall}
+use Rattle.house.specs.Wall.{Wall}
 
 pub record Room (w : Wall) : Type 0 where
   pub wide : ℕ
@@ -94,18 +95,18 @@ module _ (w : Wall) (has : Floor w) where
   pub part : (r : Room w) → Room w × Floor w
   part r = (r, has)
 
-  pub handed : (r : Room w) → 0 < r .wide → 0 < r .wide
+  pub handed : (r : Room w) → 0 < r.wide → 0 < r.wide
   handed r above = omega above
 
   pub hidden : (r : Whole w) → Valid r
   unfolding Whole
-  hidden r = r .inside .valid
+  hidden r = r.inside.valid
 
   pub behind : (r : Whole w) → Valid r
   behind = λ r. hidden r
 
   pub proved : (r : Whole w) → Valid r
-  proved r = law r (r .inside)
+  proved r = law r r.inside
 END
 cat >"$small/docs/PROMISES.md" <<'END'
 | sentence | what says it | where | what tries it |

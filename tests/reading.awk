@@ -4,8 +4,8 @@ BEGIN { FS = "\t" }
 
 # crates.txt: the order of the crates, and which of them are meanings
 FILENAME == "crates.txt" {
-    if (match($0, /^[a-z_]+:/)) {
-        crates[++crate_count] = substr($0, 1, RLENGTH - 1)
+    if (match($0, /^[a-z_]+/) && /:/) {
+        crates[++crate_count] = substr($0, 1, RLENGTH)
         meaning[crates[crate_count]] = crates[crate_count] !~ /_|^batqemulo$/
     }
     next
@@ -35,7 +35,7 @@ FILENAME == "docs/PROMISES.md" {
 FNR == 1 { files[++file_count] = FILENAME }
 { size[FILENAME] = FNR }
 /^(ghost )?use / { bind($0); next }
-/^pub use [a-z_]+::[A-Za-z_]+;/ && FILENAME ~ /^crates\/batqemulo\// { name_call($0) }
+/^pub use [a-z_]+::[A-Za-z_{}, ]+;/ && FILENAME ~ /^crates\/batqemulo\// { name_calls($0) }
 /^ *(--|\/\/|$)/ { next }
 { code[FILENAME, FNR] = $0 }
 
@@ -64,44 +64,43 @@ function bind(line,    module, alias, count, i, names, two, path, file) {
     for (i = 1; i <= count; i++) {
         split(names[i], two, " as ")
         if (two[2] == "") two[2] = two[1]
-        gsub(/^_|_$/, "", two[2])
+        gsub(/^◌|◌$/, "", two[2])
         bound_file[FILENAME, two[2]] = file
         bound_name[FILENAME, two[2]] = two[1]
     }
 }
 
-# file_of MODULE: `Rattle·game.specs.Book` is crates/game/specs/Book.antt; `Rattle·game.specs.declared.Kind` stands for the
+# file_of MODULE: `Rattle.game.specs.Book` is crates/game/specs/Book.antt; `Rattle.game.specs.declared.Kind` stands for the
 # type of that name in src/, whose file is known once all are read; what is no crate of ours is of the kit
-function file_of(module,    path, crate, count) {
-    if (module !~ /^Rattle·/) return "kit " module
-    count = split(module, path, ".")
-    crate = path[1]
-    sub(/^Rattle·/, "", crate)
-    sub(/·(specs|proofs)$/, "", crate)
-    if (path[3] == "declared") return "type " crate " " path[4]
-    return "crates/" crate "/" path[2] "/" path[3] ".antt"
+function file_of(module,    path) {
+    split(module, path, ".")
+    if (path[1] != "Rattle" || !(path[2] in meaning)) return "kit " module
+    if (path[4] == "declared") return "type " path[2] " " path[5]
+    return "crates/" path[2] "/" path[3] "/" path[4] ".antt"
 }
 
-# name_call LINE: `pub use answer::Answer;` and `pub use call_kinds::pairs_kinds;`
-function name_call(line,    two) {
+# name_calls LINE: `pub use answer::{Answer, CAnswer};` and `pub use call_kinds::pairs_kinds;`
+function name_calls(line,    two, count, names, i) {
     sub(/^pub use /, "", line)
-    sub(/;$/, "", line)
+    gsub(/[{};]/, "", line)
     split(line, two, "::")
-    calls[++call_count] = two[1] SUBSEP two[2]
+    count = split(two[2], names, /, */)
+    for (i = 1; i <= count; i++) calls[++call_count] = two[1] SUBSEP names[i]
 }
 
-# go FILE NAME FROM: this name is used in the file; what it stands for is reached
+# go FILE NAME FROM: this name is used in the file; what it stands for is reached. Of one with points the first part is a module,
+# or all that counts: the others are fields.
 function go(file, name, from,    target, parts, two) {
-    if (match(name, /^[A-Za-z-]+\../)) {
-        split(name, two, ".")
-        if (!((file, two[1]) in aliases)) return
+    split(name, two, ".")
+    if (two[2] != "" && (file, two[1]) in aliases) {
         target = aliases[file, two[1]]
         name = two[2]
-    } else if ((file, name) in bound_file) {
-        target = bound_file[file, name]
-        name = bound_name[file, name]
+    } else if ((file, two[1]) in bound_file) {
+        target = bound_file[file, two[1]]
+        name = bound_name[file, two[1]]
     } else {
         target = file
+        name = two[1]
     }
     if (target ~ /^kit /) {
         kit[substr(target, 5), name]
@@ -129,7 +128,7 @@ function reach(file, name) {
 function words(file, from, to,    n, line, count, i, found) {
     for (n = from; n <= to; n++) {
         line = code[file, n]
-        gsub(/[(){};,]|⌜|⌝/, " ", line)
+        gsub(/[(){};,]/, " ", line)
         count = split(line, found, " ")
         for (i = 1; i <= count; i++) {
             sub(/\.$/, "", found[i])
@@ -141,7 +140,7 @@ function words(file, from, to,    n, line, count, i, found) {
 # ensured FILE NAME: goes on with what the function ensures
 function ensured(file, name,    n, from) {
     for (n = first[file, name]; n <= last[file, name]; n++) {
-        if (code[file, n] ~ /^ *ensures/) from = n
+        if (code[file, n] ~ /^ *ensures/ && !from) from = n
         if (code[file, n] ~ /^{/) break
     }
     words(file, from, n - 1)
@@ -212,7 +211,7 @@ END {
     }
     for (i = 1; i <= declared_count; i++) {
         split(declared[i], two, SUBSEP)
-        if (two[1] ~ /^crates\/batqemulo\/src\/c\.rt$/) ensured(two[1], two[2])
+        if (two[1] ~ /^crates\/batqemulo_c\/src\/lib\.rt$/) ensured(two[1], two[2])
         if (two[1] ~ /^crates\/program_[a-z]+\/src\/main\.rt$/ && two[2] == "output") ensured(two[1], two[2])
         if (two[1] ~ /\/promises\/specs\/Demands\.antt$/) reach(two[1], two[2])
     }

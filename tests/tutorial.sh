@@ -54,7 +54,7 @@ furnish() {
     for name in batqemulo "${programs[@]}"; do
         starter "$1/$name" "$PWD/$name"
     done
-    ln -s "$PWD/examples" "$1/examples"
+    cp -r "$PWD/examples" "$1"
 }
 
 # build SOURCE: a C program, and a script by its name that starts it

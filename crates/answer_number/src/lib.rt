@@ -1,5 +1,5 @@
 // An answer in numbers: the number and the place of a refusal, and the two numbers that C gets. The functions that C calls are in
-// `batqemulo`.
+// `batqemulo_c`.
 #![tactic(auto)]
 
 ghost use Rattle.std.specs.Prelude.{◌≡◌};

@@ -1,8 +1,6 @@
-// The product: what other Rattle programs call is named here, and what C calls is in `c`. None of it asks anything of its
-// caller. The calls themselves are in the crates whose names begin with `call_`, and what they promise in `promises`.
+// The product: what other Rattle programs call is named here, and what C calls is in `batqemulo_c`. None of it asks anything of
+// its caller. The calls themselves are in the crates whose names begin with `call_`, and what they promise in `promises`.
 #![tactic(auto)]
-
-pub mod c;
 
 pub use answer::{Answer, CAnswer};
 pub use call_argument::{pairs_line, text_line};

@@ -1,6 +1,6 @@
 -- From what is promised of the lists that reading leaves to what the calls promise of the text.
 use mathlib.Core.List.{List}
-use mathlib.Core.Path.{subst, ◌≡◌}
+use mathlib.Core.Path.{subst}
 use Prim.Native.Nat.{ℕ, ◌<◌}
 use lib.ListN.{length}
 use Rattle.game.specs.Account.{Account}
@@ -8,7 +8,6 @@ use Rattle.register.specs.Register.{book, marks_of, objectors_of, targets_of}
 use Rattle.register.proofs.Order.{marks_counted}
 use Rattle.register_read.specs.ReadState.{ReadsTo}
 use Rattle.register_read.specs.declared.Reading.TheVariants.{Whole}
-use Rattle.register_solve.proofs.SolvedRooms.{made}
 use Rattle.answer.specs.Answer.{Promised, Short}
 use Rattle.answer.specs.declared.Answer.{Answer}
 use Rattle.answer.proofs.Inputs.{on_promised}

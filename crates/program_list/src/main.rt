@@ -16,21 +16,22 @@ fn output(text: &[u8], room: &mut [u8]) -> usize
     program_stream::put_answer(answer, room)
 }
 
-fn print_listing(text: &[u8]) {
+fn print_listing(rt: HostRuntime, text: &[u8]) {
     let mut room = [0u8; 131072];
     let n = output(text, &mut room);
-    program_stream::print_bytes(&room, n, b"list: standard output");
+    program_stream::print_bytes(rt, &room, n, b"list: standard output");
 }
 
 // The buffer is one byte longer than a register text may be, so that a longer one is refused.
-fn main() {
-    let mut text = io::large_buffer();
+fn main(rt: HostRuntime) {
+    let mut text = [0u8; 65536];
     let Input::Bytes(n) = program_stream::read_filter(
+        rt,
         &mut text,
         b" <register\n",
         b"list: standard input",
     ) else {
         return;
     };
-    print_listing(&text[..n]);
+    print_listing(rt, &text[..n]);
 }

@@ -8,8 +8,16 @@ ghost use Rattle.program_mend.specs.Sizes.{Inside, outcome_in};
 ghost use Rattle.promises.specs.Programs.{Mends};
 
 use answer::Answer;
-use libc::STDERR_FILENO;
 use program_stream::Input;
+use std::env::FillError;
+use std::fs::{File, OpenOptions};
+use std::rt::{Env, Stderr};
+use std::{fs, io};
+
+// The numbers that the system has for two errors: a name that is longer than a path may be, and bytes that are no text.
+const NAME_TOO_LONG: i32 = 36;
+
+const NO_TEXT: i32 = 84;
 
 // How many bytes are to be printed, and of a mended text how many are to be reported. A refused one has no report, not even an
 // empty one.
@@ -17,6 +25,13 @@ use program_stream::Input;
 enum Sizes {
     Refused(usize),
     Mended(usize, usize),
+}
+
+// Where the report goes: into the file that was made for it, or to standard error.
+#[derive(Drop)]
+enum Reported {
+    Into(File),
+    Aloud(Stderr),
 }
 
 // Puts what is to be printed and what is to be reported at the start of the two rooms.
@@ -33,83 +48,99 @@ fn output(text: &[u8], room: &mut [u8], report: &mut [u8]) -> Sizes
     Sizes::Mended(printed as usize, reported as usize)
 }
 
-// Writes the report to an open file. Answers whether all of it is there, which a failed close leaves in doubt. Where a write
-// fails, closing is left to the program's end, so that errno still says why.
-fn write_report(file: i32, named: bool, report: &[u8], n: usize) -> bool
+// Writes the report, and closes the file that was made for it. Answers why not all of it is there. That is in doubt until the file
+// is on its disk; std says nothing of a close that failed, so the system is asked before.
+fn write_report(to: Reported, report: &[u8], n: usize) -> io::Result<()>
     requires { n ≤ length report.now }
 {
-    if !program_stream::write_pieces(file, report, n) {
-        return false;
+    match to {
+        Reported::Into(mut file) => {
+            program_stream::write_pieces(&mut file, report, n)?;
+            file.sync_data()
+        }
+        Reported::Aloud(mut errors) => program_stream::write_pieces(&mut errors, report, n),
     }
-    if named {
-        return libc::close(file) == 0;
-    }
-    true
 }
 
 // The report goes first: where it can't be written, nothing is printed. Answers whether there is a report.
-fn print_mended(text: &[u8], file: i32, named: bool) -> bool {
-    let mut room = io::large_buffer();
+fn print_mended(rt: HostRuntime, text: &[u8], to: Reported) -> bool {
+    let mut room = [0u8; 65536];
     let mut report = program_stream::report_room();
     let put = output(text, &mut room, &mut report);
     match put {
         Sizes::Refused(n) => {
-            program_stream::print_bytes(&room, n, b"mend: standard output");
+            program_stream::print_bytes(rt, &room, n, b"mend: standard output");
             false
         }
         Sizes::Mended(n, reported) => {
-            if !write_report(file, named, &report, reported) {
-                os::fail(b"mend: report");
+            if let Err(error) = write_report(to, &report, reported) {
+                program_stream::say_failure(rt, b"mend: report", error);
                 return false;
             }
-            program_stream::print_bytes(&room, n, b"mend: standard output");
+            program_stream::print_bytes(rt, &room, n, b"mend: standard output");
             true
         }
     }
 }
 
 // The buffer is one byte longer than a text may be, so that a longer one is refused. Answers whether there is a report.
-fn mend_input(file: i32, named: bool) -> bool {
-    let mut text = io::large_buffer();
-    let Input::Bytes(n) = program_stream::read_all(&mut text) else {
-        os::fail(b"mend: standard input");
+fn mend_input(rt: HostRuntime, to: Reported) -> bool {
+    let mut text = [0u8; 65536];
+    let Input::Bytes(n) = program_stream::read_all(rt, &mut text, b"mend: standard input") else {
         return false;
     };
-    print_mended(&text[..n], file, named)
+    print_mended(rt, &text[..n], to)
+}
+
+// Makes a file to write to, which must not be there yet.
+fn make_new(rt: HostRuntime, path: &str) -> io::Result<File> {
+    let mut how = OpenOptions::new();
+    how.write(true);
+    how.create_new(true);
+    how.open(&rt, path)
+}
+
+fn say_not_made(rt: HostRuntime, path: &[u8], error: io::Error) {
+    program_stream::say(rt, b"mend: ");
+    program_stream::say_failure(rt, path, error);
 }
 
 // Makes the file for the report, which must not be there yet, and has the input mended. Where no report comes of it, the file
 // that was made is removed again: an empty one would say that nothing was dropped or moved.
-fn mend_into(path: &[u8]) {
-    let file = os::create(path);
-    if file < 0 {
-        io::write_all(STDERR_FILENO, b"mend: ");
-        os::fail(path);
-        return;
+fn mend_into(rt: HostRuntime, path: &str) {
+    match make_new(rt, path) {
+        Ok(file) => {
+            if !mend_input(rt, Reported::Into(file)) {
+                let _ = fs::remove_file(&rt, path);
+            }
+        }
+        Err(error) => say_not_made(rt, path.as_bytes(), error),
     }
-    if !mend_input(file, true) {
-        os::unlink(path);
+}
+
+// std makes no file whose name is no UTF-8.
+fn mend_into_named(rt: HostRuntime, path: &[u8]) {
+    match str::from_utf8(path) {
+        Ok(text) => mend_into(rt, text),
+        Err(_) => say_not_made(rt, path, io::Error::from_raw_os_error(NO_TEXT)),
     }
 }
 
 // An argument that is longer than a path may be is never made cut short: that would be another file. Its first bytes are in the
 // buffer all the same, so that a long option is seen.
-fn main() {
-    let words = os::arg_count();
-    if words < 2 {
-        mend_input(STDERR_FILENO, false);
-        return;
+fn main(rt: HostRuntime) {
+    let mut path = [0u8; 4096];
+    match rt.arg(1, &mut path) {
+        Err(FillError::NotPresent) => {
+            mend_input(rt, Reported::Aloud(rt.stderr()));
+        }
+        _ if program_stream::has_word(rt, 2) || program_stream::is_option(&path) => {
+            program_stream::print_usage(rt, b" [REPORT] <register\n");
+        }
+        Err(FillError::TooLong) => {
+            let error = io::Error::from_raw_os_error(NAME_TOO_LONG);
+            program_stream::say_failure(rt, b"mend: report", error);
+        }
+        Ok(n) => mend_into_named(rt, &path[..n]),
     }
-    let mut path = io::buffer();
-    let n = os::arg(1, &mut path);
-    let error = os::errno();
-    if words > 2 || program_stream::is_option(&path) {
-        program_stream::print_usage(b" [REPORT] <register\n");
-        return;
-    }
-    if error != 0 {
-        os::fail(b"mend: report");
-        return;
-    }
-    mend_into(&path[..n]);
 }

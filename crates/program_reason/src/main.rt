@@ -10,6 +10,7 @@ ghost use Rattle.program_reason.specs.AskedNumber.{NumberOf};
 
 use answer::Answer;
 use program_stream::Input;
+use std::rt::Env;
 
 // The number that the argument is, by its code, or 0, which is nobody's.
 fn number_of(argument: &[u8]) -> u32
@@ -33,20 +34,19 @@ fn output(text: &[u8], argument: &[u8], room: &mut [u8]) -> usize
     program_stream::put_answer(answer, room)
 }
 
-fn print_reason(text: &[u8], argument: &[u8]) {
+fn print_reason(rt: HostRuntime, text: &[u8], argument: &[u8]) {
     let mut room = [0u8; 131072];
     let n = output(text, argument, &mut room);
-    program_stream::print_bytes(&room, n, b"reason: standard output");
+    program_stream::print_bytes(rt, &room, n, b"reason: standard output");
 }
 
 // The buffer is one byte longer than a register text may be, so that a longer one is refused.
-fn answer_for(argument: &[u8]) {
-    let mut text = io::large_buffer();
-    let Input::Bytes(n) = program_stream::read_all(&mut text) else {
-        os::fail(b"reason: standard input");
+fn answer_for(rt: HostRuntime, argument: &[u8]) {
+    let mut text = [0u8; 65536];
+    let Input::Bytes(n) = program_stream::read_all(rt, &mut text, b"reason: standard input") else {
         return;
     };
-    print_reason(&text[..n], argument);
+    print_reason(rt, &text[..n], argument);
 }
 
 // 16 zeros, room for any number as it is written.
@@ -58,12 +58,13 @@ fn argument_room() -> [u8; 16]
 
 // An argument that does not fit its room is read as an empty one: neither is a number. Its first bytes are there all the same, so
 // that a long option is seen.
-fn main() {
+fn main(rt: HostRuntime) {
     let mut argument = argument_room();
-    let n = os::arg(1, &mut argument);
-    if os::arg_count() != 2 || program_stream::is_option(&argument) {
-        program_stream::print_usage(b" NUMBER <register\n");
+    let n = rt.arg(1, &mut argument).unwrap_or(0);
+    let one_word = program_stream::has_word(rt, 1) && !program_stream::has_word(rt, 2);
+    if !one_word || program_stream::is_option(&argument) {
+        program_stream::print_usage(rt, b" NUMBER <register\n");
         return;
     }
-    answer_for(&argument[..n]);
+    answer_for(rt, &argument[..n]);
 }

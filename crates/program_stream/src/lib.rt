@@ -1,16 +1,21 @@
 // What the programs have in common: a word that none of them takes is answered by how the program is used, standard input is
 // read whole into a room, an answer is put as what is printed of it, and a room's first bytes are written in pieces. What is
 // asked and answered is each program's own. A filter, which takes no word at all, has its input and its output done whole here.
+// A failure is said on standard error in the words that the system has for it, and no program has an exit status of its own.
 #![tactic(auto)]
 
-ghost use Rattle.std.specs.Prelude.{◌≡◌, ◌≤◌, ◌-◌, ◌<◌, length};
+ghost use Rattle.std.specs.Prelude.{◌≡◌, ◌≤◌, ◌-◌, ◌<◌, length, IfOk};
 ghost use Rattle.program_stream.specs.Input.{Within};
 ghost use Rattle.program_stream.specs.Pieces.{Piece};
 ghost use Rattle.program_stream.specs.PutAnswer.{PutOf};
 ghost use Rattle.program_stream.specs.Options.{Option};
 
 use answer::Answer;
-use libc::{STDERR_FILENO, STDIN_FILENO, STDOUT_FILENO};
+use std::env::FillError;
+use std::fmt::InlineText;
+use std::io;
+use std::io::{IsTerminal, Read, Write};
+use std::rt::Env;
 
 #[derive(Drop)]
 pub enum Input {
@@ -31,71 +36,94 @@ pub fn is_option(word: &[u8]) -> bool
     false
 }
 
+// Whether the program was started with a word at this place. Its name is at 0.
+pub fn has_word(rt: HostRuntime, place: usize) -> bool {
+    match rt.arg(place, &mut []) {
+        Err(FillError::NotPresent) => false,
+        _ => true,
+    }
+}
+
+// Says something on standard error. Where that can't be written, it is lost.
+pub fn say(rt: HostRuntime, words: &[u8]) {
+    let _ = rt.stderr().write_all(words);
+}
+
+// Says in a line of standard error what failed, as the caller names it, and why.
+pub fn say_failure(rt: HostRuntime, failed: &[u8], error: io::Error) {
+    let said = InlineText::<256>::of(error);
+    say(rt, failed);
+    say(rt, b": ");
+    say(rt, system_words(said.as_str()));
+    say(rt, b"\n");
+}
+
+// The words that the system has for an error: std puts the error's number behind them.
+fn system_words(said: &str) -> &[u8] {
+    match said.split_once(" (os error ") {
+        Some((words, _)) => words.as_bytes(),
+        None => said.as_bytes(),
+    }
+}
+
 // Says on standard error how the program is used: the name with which it was started, and the words that go behind it. A name
 // that is longer than a path may be is left out.
-pub fn print_usage(words: &[u8]) {
-    let mut name = io::buffer();
-    let n = os::arg(0, &mut name);
-    io::write_all(STDERR_FILENO, b"usage: ");
-    io::write_all(STDERR_FILENO, &name[..n]);
-    io::write_all(STDERR_FILENO, words);
+pub fn print_usage(rt: HostRuntime, words: &[u8]) {
+    let mut name = [0u8; 4096];
+    let n = rt.arg(0, &mut name).unwrap_or(0);
+    say(rt, b"usage: ");
+    say(rt, &name[..n]);
+    say(rt, words);
 }
 
 // Says that input is waited for, where somebody is to type it.
-fn tell_waiting() {
-    if libc::isatty(STDIN_FILENO) == 1 {
-        io::write_all(
-            STDERR_FILENO,
+fn tell_waiting(rt: HostRuntime) {
+    if rt.stdin().is_terminal() {
+        say(
+            rt,
             b"waiting for a register on standard input; Ctrl-D ends it\n",
         );
     }
 }
 
 // One read into the room, behind the bytes that are there. No bytes: the input has ended.
-fn read_more(room: &mut [u8], done: usize) -> Input
+fn read_more(rt: HostRuntime, room: &mut [u8], done: usize) -> io::Result<usize>
     requires { done ≤ length room.old }
-    ensures { Within (length room.old - done) result }
+    ensures { IfOk result (λ n. n ≤ length room.old - done) }
 {
-    let got = libc::read(STDIN_FILENO, &mut room[done..]);
-    if got < 0 {
-        return Input::Failed;
-    }
-    Input::Bytes(io::count(got, &room[done..]))
+    rt.stdin().read(&mut room[done..])
 }
 
-// Reads until the input ends, the room is full or a read fails, which is not the end of the input. At a terminal it says that it
-// waits.
-pub fn read_all(room: &mut [u8]) -> Input
+// Reads until the input ends, the room is full or a read fails, which is not the end of the input: what failed is said then. At a
+// terminal it says that it waits.
+pub fn read_all(rt: HostRuntime, room: &mut [u8], failed: &[u8]) -> Input
     ensures { Within (length room.old) result }
 {
-    tell_waiting();
+    tell_waiting(rt);
     let mut done = 0;
     // The `done` bytes read so far are within the room.
     while done < room.len() {
-        let Input::Bytes(n) = read_more(room, done) else {
-            return Input::Failed;
-        };
-        if n == 0 {
-            break;
+        match read_more(rt, room, done) {
+            Ok(0) => break,
+            Ok(n) => done += n,
+            Err(error) => {
+                say_failure(rt, failed, error);
+                return Input::Failed;
+            }
         }
-        done += n;
     }
     Input::Bytes(done)
 }
 
 // The input of a filter. With a word it says how it is used, and where a read fails, what failed; either way there is no input.
-pub fn read_filter(room: &mut [u8], words: &[u8], failed: &[u8]) -> Input
+pub fn read_filter(rt: HostRuntime, room: &mut [u8], words: &[u8], failed: &[u8]) -> Input
     ensures { Within (length room.old) result }
 {
-    if os::arg_count() > 1 {
-        print_usage(words);
+    if has_word(rt, 1) {
+        print_usage(rt, words);
         return Input::Failed;
     }
-    let input = read_all(room);
-    if let Input::Failed = input {
-        os::fail(failed);
-    }
-    input
+    read_all(rt, room, failed)
 }
 
 // Leaves what was given, or puts the one line of the refusal at the start of the room, and answers how many bytes are to be
@@ -129,27 +157,25 @@ fn piece_end(room: &[u8], n: usize, start: usize) -> usize
     if n - start <= 65536 { n } else { start + 65536 }
 }
 
-// Writes the first n bytes of the room to an open file, piece by piece. Answers whether all were taken.
-pub fn write_pieces(fd: i32, room: &[u8], n: usize) -> bool
+// Writes the first n bytes of the room to an open file or a stream, piece by piece. Where not all are taken, it answers why.
+pub fn write_pieces<W: Write>(to: &mut W, room: &[u8], n: usize) -> io::Result<()>
     requires { n ≤ length room.now }
 {
     let mut start: usize = 0;
     // The first `start` bytes were taken, and they are at most n.
     while start < n {
         let end = piece_end(room, n, start);
-        if !io::write_all(fd, &room[start..end]) {
-            return false;
-        }
+        to.write_all(&room[start..end])?;
         start = end;
     }
-    true
+    Ok(())
 }
 
 // Writes the first n bytes of the room to standard output, and where they are not taken, says what failed.
-pub fn print_bytes(room: &[u8], n: usize, failed: &[u8])
+pub fn print_bytes(rt: HostRuntime, room: &[u8], n: usize, failed: &[u8])
     requires { n ≤ length room.now }
 {
-    if !write_pieces(STDOUT_FILENO, room, n) {
-        os::fail(failed);
+    if let Err(error) = write_pieces(&mut rt.stdout(), room, n) {
+        say_failure(rt, failed, error);
     }
 }

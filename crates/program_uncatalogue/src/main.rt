@@ -17,21 +17,22 @@ fn output(catalogue: &[u8], room: &mut [u8]) -> usize
     program_stream::put_answer(answer, room)
 }
 
-fn print_old_form(catalogue: &[u8]) {
-    let mut room = io::large_buffer();
+fn print_old_form(rt: HostRuntime, catalogue: &[u8]) {
+    let mut room = [0u8; 65536];
     let n = output(catalogue, &mut room);
-    program_stream::print_bytes(&room, n, b"uncatalogue: standard output");
+    program_stream::print_bytes(rt, &room, n, b"uncatalogue: standard output");
 }
 
 // The buffer is one byte longer than a catalogue may be, so that a longer one is refused.
-fn main() {
-    let mut text = io::large_buffer();
+fn main(rt: HostRuntime) {
+    let mut text = [0u8; 65536];
     let Input::Bytes(n) = program_stream::read_filter(
+        rt,
         &mut text,
         b" <catalogue\n",
         b"uncatalogue: standard input",
     ) else {
         return;
     };
-    print_old_form(&text[..n]);
+    print_old_form(rt, &text[..n]);
 }

@@ -30,18 +30,50 @@ fn empty(session: &mut Session) -> Result<(), String> {
     answered(session, &Text::default(), ACCEPTED)
 }
 
+/// A sound text of just so many bytes, 60,000 or more. It has statements of 13 bytes, then
+/// objections of 20 bytes up to the length or a little over it; what is over is taken from the
+/// first statements, which nobody objects to, by giving them shorter numbers.
+fn sound(bytes: usize) -> Text {
+    const STATEMENTS: usize = 1_000;
+    let objections = (bytes - 13 * STATEMENTS).div_ceil(20);
+    let mut over = 13 * STATEMENTS + 20 * objections - bytes;
+    let number = |place: usize| 10_000_000 * (1 + place % 9) + 37 * place;
+    let mut lines = Vec::new();
+    for place in 0..STATEMENTS {
+        let shorter = over.min(7);
+        over -= shorter;
+        lines.push(format!(
+            "S\t{}\tR",
+            number(place) / 10_usize.pow(shorter as u32)
+        ));
+    }
+    for entry in 0..objections {
+        let target = 3 + entry % (STATEMENTS - 3);
+        let objector = 3 + (target + 5 * (entry / (STATEMENTS - 3))) % (STATEMENTS - 3);
+        lines.push(format!("O\t{}\t{}", number(objector), number(target)));
+    }
+    Text::of_lines(&lines)
+}
+
+/// The same with the longest numbers of each form.
+fn sized(bytes: usize) -> impl Iterator<Item = Text> {
+    FORMS.iter().map(move |form| {
+        let (lists, numbers) = form.register(bytes);
+        Text::written(&lists, &numbers)
+    })
+}
+
 fn most_bytes(session: &mut Session) -> Result<(), String> {
-    for form in &FORMS {
-        for bytes in [MOST_BYTES - 1, MOST_BYTES] {
-            let (lists, numbers) = form.register(bytes);
-            let text = Text::written(&lists, &numbers);
+    for bytes in [MOST_BYTES - 1, MOST_BYTES] {
+        for text in sized(bytes).chain([sound(bytes)]) {
             if text.0.len() != bytes {
                 return Err(format!("{} bytes instead of {bytes}", text.0.len()));
             }
             answered(session, &text, ACCEPTED)?;
         }
-        let (lists, numbers) = form.register(MOST_BYTES);
-        hold_spoiled(session, Text::written(&lists, &numbers))?;
+    }
+    for text in sized(MOST_BYTES).chain([sound(MOST_BYTES)]) {
+        hold_spoiled(session, text)?;
     }
     Ok(())
 }
@@ -61,9 +93,8 @@ fn hold_spoiled(session: &mut Session, mut text: Text) -> Result<(), String> {
 }
 
 fn too_many_bytes(session: &mut Session) -> Result<(), String> {
-    for form in &FORMS {
-        let (lists, numbers) = form.register(MOST_BYTES + 1);
-        answered(session, &Text::written(&lists, &numbers), (1, 0))?;
+    for text in sized(MOST_BYTES + 1).chain([sound(MOST_BYTES + 1)]) {
+        answered(session, &text, (1, 0))?;
     }
     for bytes in [CUT, CUT + 1, CUT + 8, 2 * CUT - 1, 2 * CUT, 200_000] {
         for byte in [b'\n', b'S', 0] {

@@ -1,0 +1,10 @@
+-- `has_room`: a room as long as the longest listing has room for each, and any other is held against the listing's own size.
+use mathlib.Core.Path.{ap}
+use native.Mathlib.Omega.{arith}
+use lib.ListN.{length}
+use Rattle.listing.proofs.Listing.{listing_once}
+use Rattle.call_listing.proofs.has_room.Goals as goal
+
+pub returns-then-room-size : goal.returns-then-room-size
+returns-then-room-size c = λ R ready bounded l is. let (k, i, e) = c.size.ensures R ready in
+    omega (arith, c.if-room-size.true, e, ap length (listing_once R l k is i))

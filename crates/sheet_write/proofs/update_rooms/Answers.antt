@@ -2,9 +2,13 @@
 use mathlib.Core.Bool.{not}
 use mathlib.Core.Path.{ap}
 use native.Mathlib.Omega.{arith}
-use Rattle.game.proofs.Find.{granted}
-use Rattle.sheet_write.proofs.SheetGiven.{codable, updated}
+use Rattle.game.proofs.Find.{denied, granted}
+use Rattle.sheet_write.proofs.SheetGiven.{codable, not_sound, updated}
 use Rattle.sheet_write.proofs.update_rooms.Goals as goal
+
+pub returns-then-not-is_sound : goal.returns-then-not-is_sound
+returns-then-not-is_sound c = λ B of. not_sound B c.args.n c.args.labels.now of c.args.sheet.now c.args.totals.now
+    (denied c.is_sound.result (ap not c.if-not-is_sound.true) c.is_sound.ensures)
 
 pub update-requires : goal.update-requires
 update-requires c = let sound = granted c.is_sound.result (ap not c.if-not-is_sound.false) c.is_sound.ensures in (

@@ -127,6 +127,9 @@ not_made() {
         grep -q "^mend: ${2-$1}: ." "$work/said" && [ "$status" -eq 0 ]
 }
 
+# no_text: a name that is no UTF-8 cannot be that of a report, since the kit makes no file of such a name
+no_text() { LC_ALL=C not_made "$work/a b"$'\xff' "$work/a b."; }
+
 # report_fills_up FILE: a disk is full after 70 KiB of the report; nothing is printed, and no part of it is left
 report_fills_up() {
     (
@@ -258,7 +261,8 @@ try 'a report where the folder itself is' stays .
 try 'nothing came of the dangling link' test ! -e "$apart/nowhere"
 try 'the command by which a register was once lost' as_typed
 try 'a new report may be read by all' for_all_to_read
-try 'a name with strange bytes' named "$work/a b"$'\n\xff'
+try 'a name with strange bytes' named "$work/a b"$'\n\x01\xc3\xbf'
+try 'a name that is no UTF-8' unreported no_text
 try 'a name of 4,095 bytes' named "$(of_length 4095)"
 try 'a name of 4,096 bytes' unreported not_made "$(of_length 4096)"
 try 'a name of 70,000 bytes' unreported not_made "$(of_length 70000)" report

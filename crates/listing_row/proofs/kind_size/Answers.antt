@@ -8,3 +8,6 @@ overflow_add-result c = omega (arith, ten_digits c.in-Felling.turns)
 
 pub overflow_add-result-in-Delaying : goal.overflow_add-result-in-Delaying
 overflow_add-result-in-Delaying c = omega (arith, ten_digits c.in-Delaying.turns)
+
+pub returns-in-Felling : goal.returns-in-Felling
+returns-in-Felling c = rw c.in-Felling.is (omega (arith, c.decimal_size.ensures))

@@ -15,3 +15,9 @@ returns-in-Idle c = belongs_decided _ _ _ _ c.kind_at-kind.ensures _ c.in-Idle.i
 pub returns-else-length-target_length : goal.returns-else-length-target_length
 returns-else-length-target_length c = felling_apart _ _ _ _ _ c.requires.0 _ _ c.requires.1 c.place.ensures _
     c.kind_at-kind.ensures _ c.in-Felling.is (λ e. omega (arith, c.if-length-target_length.false))
+
+pub returns-in-Delaying : goal.returns-in-Delaying
+returns-in-Delaying c = belongs_decided _ _ _ _ c.kind_at-kind.ensures _ c.in-Delaying.is _ refl
+
+pub returns-in-Standoff : goal.returns-in-Standoff
+returns-in-Standoff c = belongs_decided _ _ _ _ c.kind_at-kind.ensures _ c.in-Standoff.is _ refl

@@ -14,7 +14,8 @@ module _ (objectors targets labels lengths : List ℕ) (x label turns none : ℕ
   -- no place is earlier than `best` whose entry has been seen
   abbrev pub Later : ℕ → ℕ → Type 0
   Later best e =
-      get_or labels (get_or objectors e 0) 0 ≡ label → get_or lengths (get_or objectors e 0) 0 ≡ turns → best ≤ get_or objectors e 0
+      get_or labels (get_or objectors e 0) 0 ≡ label → get_or lengths (get_or objectors e 0) 0 ≡ turns → best ≤ get_or objectors e
+      0
 
   -- the search has come to the link c; `best` is the earliest so far, or `none`
   pub record Search (best c : ℕ) : Type 0 where

@@ -14,7 +14,8 @@ use Rattle.game.proofs.Search.{both, and_of, clash, decide}
 use Rattle.register.specs.Texts.{pick_bytes}
 use Rattle.register.specs.Number.{number_bytes, IsNumber}
 use Rattle.register.proofs.Number.{number_test, number_tested, number_passes, number_unbroken, spell_number}
-use Rattle.register.proofs.Guess.{field, behind, field_is, guess_mark, number_guessed, rest_guessed, mark_guessed, ahead, ahead_is}
+use Rattle.register.proofs.Guess.{field, behind, field_is, guess_mark, number_guessed, rest_guessed, mark_guessed, ahead}
+use Rattle.register.proofs.Guess.{ahead_is}
 use Rattle.register.proofs.Guess.{ahead_of}
 use Rattle.catalogue.specs.Cards.{Card, card_bytes, fields_bytes, Each, BeginsWithCard}
 use Rattle.catalogue.proofs.Cards.{fields_follow, card_split, behind_number}
@@ -28,7 +29,10 @@ guess_objectors (suc most) (b ∷ s) =
 
 unfoldable pub guess_behind : (number most : ℕ) (s : List ℕ) → Card
 guess_behind number most s =
-    record { statement = record { number = number; mark = guess_mark (get_or s 0 0) }; objectors = guess_objectors most (drop 1 s) }
+    record {
+      statement = record { number = number; mark = guess_mark (get_or s 0 0) };
+      objectors = guess_objectors most (drop 1 s);
+    }
 
 unfoldable pub guess_card : List ℕ → Card
 guess_card s = guess_behind (spell_number 0 (field (drop 2 s))) (length s) (behind (drop 2 s))

@@ -44,7 +44,8 @@ sound_formed cs sound = go cs (each_of (λ (st : StatementLine). st.number) IsNu
 pub cards_read_once : (cs ds : List Card) → SoundCards cs → SoundCards ds → cards_bytes cs ≡ cards_bytes ds → cs ≡ ds
 unfolding cards_bytes
 cards_read_once cs ds p q e =
-    pieces.same_whole cards_bytes card_bytes refl (λ c cs. refl) CardFormed (Each CardFormed) (λ c cs f. f) card_once card_not_empty
+    pieces.same_whole cards_bytes card_bytes refl (λ c cs. refl) CardFormed (Each CardFormed) (λ c cs f. f) card_once
+    card_not_empty
     cs ds (sound_formed cs p) (sound_formed ds q) e
 
 -- The rows that ask what the next card is, each with the refusal that it gives at line k.
@@ -103,7 +104,8 @@ stopped_once : (s : List ℕ) (k k' : ℕ) (r r' : TextFault) → CardFault s k 
     → CardFault s k' (λ cs rest. Stop cs rest k' r') → r ≡ r'
 unfolding cards_bytes
 stopped_once s k k' r r' p q =
-    let (e, f) = pieces.same_reading cards_bytes card_bytes refl (λ c cs. refl) CardFormed (Each CardFormed) (λ c cs f. f) card_once
+    let (e, f) = pieces.same_reading cards_bytes card_bytes refl (λ c cs. refl) CardFormed (Each CardFormed) (λ c cs f. f)
+    card_once
     q.before p.before q.rest p.rest (sound_formed q.before q.sound) (sound_formed p.before p.sound)
     (sym q.is_written ∙ p.is_written) (no_stop q.before p.before q.rest k' r' p.sound q.fault)
     (no_stop p.before q.before p.rest k r q.sound p.fault) in

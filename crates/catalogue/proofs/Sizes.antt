@@ -188,7 +188,8 @@ as_long_exactly R v = (
 -- Grouping leaves the statements, and each objection on one card.
 length_grouped : (cs : List Card) → length (bytes (map Objection (all_objections cs))) ≡ total old_length cs
 unfolding bytes all_objections
-length_grouped = length_pieces (λ c. bytes (map Objection (objections_on c))) (λ cs. bytes (map Objection (all_objections cs))) refl
+length_grouped = length_pieces (λ c. bytes (map Objection (objections_on c))) (λ cs. bytes (map Objection (all_objections cs)))
+    refl
     (λ c cs. ap bytes (map-append Objection (objections_on c) (all_objections cs))
     ∙ bytes_append (map Objection (objections_on c)) (map Objection (all_objections cs)))
 

@@ -256,7 +256,8 @@ module _ (all : List Card) where
   TwiceAt = Twice (codes all) (places_from 0 all)
 
   once_from : (cs : List Card) (i : ℕ) (pre prep : List ℕ) → codes all ≡ pre ++ codes cs
-      → places_from 0 all ≡ prep ++ places_from i cs → length prep ≡ length pre → ((j : ℕ) → j < length prep → get_or prep j 0 < i)
+      → places_from 0 all ≡ prep ++ places_from i cs → length prep ≡ length pre →
+      ((j : ℕ) → j < length prep → get_or prep j 0 < i)
       → Tells NamesOnce (λ j. ¬ TwiceAt j) TwiceAt (length pre) cs
   unfolding places_from
   once_from [] i pre prep e p n low = tt
@@ -312,7 +313,8 @@ module _ (all : List Card) where
 
       twice : (j : ℕ) → j < length ys → (a : ℕ) → a < length pre + j
           → get_or (codes all) a 0 ≡ get_or (codes all) (length pre + j) 0
-          → get_or (places_from 0 all) a 0 ≡ get_or (places_from 0 all) (length pre + j) 0 → NamesOnce c → Dec (a < length pre) → ⊥
+          → get_or (places_from 0 all) a 0 ≡ get_or (places_from 0 all) (length pre + j) 0 → NamesOnce c → Dec (a < length pre) →
+          ⊥
       twice j h a l q r once (yes g) = omega (arith, earlier a g, place j h)
       twice j h a l q r once (no g) =
           let b : ℕ = a - length pre in

@@ -19,7 +19,7 @@ use Rattle.register_read.proofs.Held.{take_more}
 use Rattle.catalogue.specs.Cards.{Card, Each, fields_bytes, BeginsWithCard}
 use Rattle.catalogue.proofs.Cards.{fields_follow, card_split}
 use Rattle.catalogue.proofs.Against.{each_append}
-use Rattle.catalogue_read.specs.CatalogueState.{headed, HeadAt, FieldsFrom, Grown, MoreOf, FieldsAt, CardAt}
+use Rattle.catalogue_read.specs.CatalogueState.{headed, HeadAt, FieldsFrom, RoomGrown, MoreOf, FieldsAt, CardAt}
 use Rattle.catalogue_read.specs.declared.HeadRead.TheVariants.{Head, NoHead}
 use Rattle.catalogue_read.specs.declared.FieldsRead.TheVariants.{Fields}
 use Rattle.catalogue_read.specs.declared.CardRead.TheVariants.{CardOf}
@@ -74,8 +74,8 @@ module _ (s : List ℕ) (at : ℕ) where
         )
 
 -- A room with one entry more, and the rooms with one objector more.
-grown_more : (room room' more : List ℕ) (m v : ℕ) → Grown room m more room'
-    → Grown room m (more ++ (v ∷ [])) (set room' (m + length more) v)
+grown_more : (room room' more : List ℕ) (m v : ℕ) → RoomGrown room m more room'
+    → RoomGrown room m (more ++ (v ∷ [])) (set room' (m + length more) v)
 grown_more room room' more m v g = record {
   as_long = length-set room' (m + length more) v ∙ g.as_long;
   holds = λ fits. longer (length-append more (v ∷ [])) fits;
@@ -97,7 +97,7 @@ module _ (n m : ℕ) (objectors targets : List ℕ) where
     targets_grown = none targets;
   }
     where
-      none : (room : List ℕ) → Grown room m [] room
+      none : (room : List ℕ) → RoomGrown room m [] room
       none room = record {
         as_long = refl;
         holds = λ fits. let k : m + 0 ≡ m = omega arith in ap (λ i. take i room) k ∙ sym (append-nil (take m room));
@@ -110,10 +110,10 @@ module _ (n m : ℕ) (objectors targets : List ℕ) where
       record {
         counted = omega (arith, h.counted, length-append ys (v ∷ []));
         objectors_grown =
-            subst (λ k. Grown objectors m (ys ++ (v ∷ [])) (set objectors' k v)) (sym h.counted)
+            subst (λ k. RoomGrown objectors m (ys ++ (v ∷ [])) (set objectors' k v)) (sym h.counted)
             (grown_more objectors objectors' ys m v h.objectors_grown);
         targets_grown =
-            subst₂ (λ k u. Grown targets m u (set targets' k n)) (same ∙ sym h.counted)
+            subst₂ (λ k u. RoomGrown targets m u (set targets' k n)) (same ∙ sym h.counted)
             (sym (map-append (λ (y : ℕ). n) ys (v ∷ [])))
             (grown_more targets targets' (map (λ (y : ℕ). n) ys) m n h.targets_grown);
       }

@@ -58,7 +58,8 @@ pub record Naming (objectors targets : List ℕ) (m : ℕ) (last₀ last : List 
   pub as_long : length last ≡ length last₀
   pub none : (j : ℕ) → j < k → ¬ Twice objectors targets j
   pub named : (j : ℕ) → j < k → get_or targets j 0 + 1 ≤ get_or last (get_or objectors j 0) 0
-  pub lines : (y : ℕ) → 0 < get_or last y 0 → (j : ℕ) × (j < k) × (get_or objectors j 0 ≡ y) × (get_or targets j 0 + 1 ≡ get_or last y 0)
+  pub lines : (y : ℕ) → 0 < get_or last y 0 → (j : ℕ) × (j < k) × (get_or objectors j 0 ≡ y) ×
+      (get_or targets j 0 + 1 ≡ get_or last y 0)
 
 module _ (objectors targets : List ℕ) (m : ℕ) (last₀ : List ℕ) where
   pub none_named : ((y : ℕ) → get_or last₀ y 0 ≡ 0) → Naming objectors targets m last₀ last₀ 0

@@ -47,15 +47,15 @@ pub record FieldsFrom (s : List ℕ) (at : ℕ) : Type 0 where
   pub are : drop at s ≡ fields_bytes fields ++ (10 ∷ rest)
 
 -- A room of which m entries were in use, with some more, as far as there is room for them.
-pub record Grown (room : List ℕ) (m : ℕ) (more room' : List ℕ) : Type 0 where
+pub record RoomGrown (room : List ℕ) (m : ℕ) (more room' : List ℕ) : Type 0 where
   pub as_long : length room' ≡ length room
   pub holds : m + length more ≤ length room → take (m + length more) room' ≡ take m room ++ more
 
 -- the rooms of the objectors and of the places of their targets, with those of one more line, the place of whose statement is n
 pub record MoreOf (n m count : ℕ) (ys objectors targets objectors' targets' : List ℕ) : Type 0 where
   pub counted : count ≡ m + length ys
-  pub objectors_grown : Grown objectors m ys objectors'
-  pub targets_grown : Grown targets m (map (λ (y : ℕ). n) ys) targets'
+  pub objectors_grown : RoomGrown objectors m ys objectors'
+  pub targets_grown : RoomGrown targets m (map (λ (y : ℕ). n) ys) targets'
 
 -- what reading the fields answers: how many objectors there are now, and where the next line starts
 abbrev pub FieldsAt : List ℕ → (at n m : ℕ) → (objectors targets objectors' targets' : List ℕ) → FieldsRead → Type 0

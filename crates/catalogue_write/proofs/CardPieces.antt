@@ -18,7 +18,8 @@ pub begin_length : (number mark : ℕ) → length (card_begin number mark) ≡ l
 begin_length number mark = omega (arith, length-append (number_bytes number) (mark_tab mark))
 
 module _ (nums marks objectors targets : List ℕ) (x : ℕ) where
-  pub card_length_lem : length (card_text nums marks objectors targets x) ≡ length (card_begin (get_or nums x 0) (get_or marks x 0)) +
+  pub card_length_lem : length (card_text nums marks objectors targets x) ≡ length
+      (card_begin (get_or nums x 0) (get_or marks x 0)) +
       length (fields_text nums objectors targets x) + 1
   card_length_lem =
       omega (
@@ -45,7 +46,8 @@ module _ (room : List ℕ) (at : ℕ) where
 
   pub card_put : (nums marks objectors targets : List ℕ) (x : ℕ) {e₁ e₂ e₃ : ℕ} {r₁ r₂ r₃ : List ℕ}
       → RoomFor room at (card_text nums marks objectors targets x)
-      → Put room at (card_begin (get_or nums x 0) (get_or marks x 0)) e₁ r₁ → Put r₁ e₁ (fields_text nums objectors targets x) e₂ r₂
+      → Put room at (card_begin (get_or nums x 0) (get_or marks x 0)) e₁ r₁ → Put r₁ e₁ (fields_text nums objectors targets x) e₂
+      r₂
       → Put r₂ e₂ (10 ∷ []) e₃ r₃ → Put room at (card_text nums marks objectors targets x) e₃ r₃
   card_put nums marks objectors targets x {e₃ = e} {r₃ = r} h a b c =
       let p₁ : List ℕ = card_begin (get_or nums x 0) (get_or marks x 0) in

@@ -13,7 +13,8 @@ use Rattle.register.specs.Lines.{mark_byte, mark_number}
 use Rattle.register.specs.declared.Mark.{Mark}
 use Rattle.register.specs.declared.StatementLine.{StatementLine}
 use Rattle.register.specs.declared.ObjectionLine.{ObjectionLine}
-use Rattle.register.specs.Register.{Register, Valid, numbers, marks_of, objectors_of, targets_of, objector_numbers, target_numbers}
+use Rattle.register.specs.Register.{Register, Valid, numbers, marks_of, objectors_of, targets_of, objector_numbers}
+use Rattle.register.specs.Register.{target_numbers}
 use Rattle.register.specs.Texts.{rows_to}
 use Rattle.register.proofs.Order.{number_there, numbers_counted, objectors_counted, place_once, register_in_order}
 use Rattle.register.proofs.Order.{marks_counted}

@@ -34,7 +34,8 @@ module _ (places turned : List ℕ) where
     part_turned : Turned places part
     part_turned e i p = get_or-take (length places) turned i 0 (omega arith) ∙ is_turned e i p
 
-    pub part_low : (n : ℕ) → ((e : ℕ) → e < length places → get_or places e 0 < n) → (i : ℕ) → i < length part → get_or part i 0 < n
+    pub part_low : (n : ℕ) → ((e : ℕ) → e < length places → get_or places e 0 < n) → (i : ℕ) → i < length part → get_or part i 0 <
+        n
     part_low n h i l =
         let e : ℕ = length places - 1 - i in
         omega (arith, part_turned e i (omega (arith, part_length)), h e (omega (arith, part_length)))

@@ -12,7 +12,8 @@ use Rattle.register.specs.declared.TextFault.TheVariants.{TooLong, Unended, Spoi
 use Rattle.register.specs.declared.TextFault.TheVariants.{Unknown, Repeated}
 use Rattle.catalogue.specs.Cards.{Card, cards_bytes, Each, BeginsWithCard}
 use Rattle.catalogue.specs.Regrouped.{all_statements, all_objections, register_of, catalogued, Grouped}
-use Rattle.catalogue.specs.CatalogueReads.{CatalogueOf, CatalogueAccepts, CatalogueRefuses, SoundCards, CardFault, NextCard, ListedIn}
+use Rattle.catalogue.specs.CatalogueReads.{CatalogueOf, CatalogueAccepts, CatalogueRefuses, SoundCards, CardFault, NextCard}
+use Rattle.catalogue.specs.CatalogueReads.{ListedIn}
 use Rattle.catalogue.specs.CatalogueReads.{NamesListed, NamesOnce, FirstCard, OverAll}
 use Rattle.catalogue.proofs.CardGuess.{guess_card, card_test, card_tested, spoiled_card_test, spoiled_card_tested}
 use Rattle.examples.proofs.Text.{behind_line, rest_from, line_count}
@@ -59,7 +60,8 @@ sound cs =
 -- the objections of a register are grouped by target in listed order
 abbrev pub in_groups : (R : Register) → Test (Grouped R)
 in_groups R =
-    so (λ (f : (k : ℕ) → k < length R.objections → (j : ℕ) → j < k → get_or (targets_of R) j 0 ≤ get_or (targets_of R) k 0) j k h l.
+    so (λ (f : (k : ℕ) → k < length R.objections → (j : ℕ) → j < k → get_or (targets_of R) j 0 ≤ get_or (targets_of R) k 0) j k h
+    l.
     f k l j h)
     (each (length R.objections) (λ k. each k (λ j. decided (at_most (get_or (targets_of R) j 0) (get_or (targets_of R) k 0)))))
 

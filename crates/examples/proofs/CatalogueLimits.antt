@@ -90,7 +90,8 @@ module _ (ys zs : List ℕ) (f : Each IsNumber ys) (g : Each IsNumber zs) (few :
   sound_first : SoundCards (first ∷ [])
   unfolding all_objections issued any
   sound_first =
-      sound_more [] first (cards_sound (bare []) empty_valid) formed_first (omega arith) ((refuted (on_register (bare []) 1)).is tt)
+      sound_more [] first (cards_sound (bare []) empty_valid) formed_first (omega arith)
+      ((refuted (on_register (bare []) 1)).is tt)
       (omega (arith, few))
 
   past_objectors : CatalogueRefuses (card_bytes first ++ card_bytes second) (Objections 2)

@@ -8,7 +8,8 @@ use Rattle.register.specs.Number.{number_bytes}
 use Rattle.register.specs.Register.{bytes, place_of, written}
 use Rattle.register.proofs.Decimals.{spell}
 use Rattle.register.proofs.Number.{number_test, spell_number}
-use Rattle.register.proofs.Guess.{field, behind, guess_mark, guess_fields, guess_line, ahead, formed_test, begins_test, spoiled_test}
+use Rattle.register.proofs.Guess.{field, behind, guess_mark, guess_fields, guess_line, ahead, formed_test, begins_test}
+use Rattle.register.proofs.Guess.{spoiled_test}
 use Rattle.catalogue.specs.Cards.{fields_bytes, cards_bytes}
 use Rattle.catalogue.specs.Regrouped.{against, catalogued, all_objections}
 use Rattle.catalogue.specs.CatalogueReads.{CatalogueAccepts}
@@ -54,7 +55,8 @@ test_of (uncatalogue cards room c after) =
 pub catalogue_table_holds : Every OnFormSays catalogue_table
 unfolding catalogue_table test_of pass refusal_of fault_of
     ascii in_parts field behind guess_mark guess_fields guess_line spell spell_number ahead formed_test begins_test spoiled_test
-    behind_line rest_from guess_first line_count register_of same issued numbered differ known distinct ordered accepted unended_test
+    behind_line rest_from guess_first line_count register_of same issued numbered differ known distinct ordered accepted
+    unended_test
     guess_objectors guess_behind guess_card numbers_test card_test spoiled_card_test guess_cards cards_of
     fields_bytes cards_bytes against all_objections
     any all number_test number_bytes decimal decimal_in bytes place_of

@@ -123,7 +123,8 @@ unfolding table in_parts ascii field behind guess_mark guess_fields guess_line s
     spell_number behind_line guess_first line_count register_of
     same issued numbered differ known distinct ordered accepted kept added finishing test_of pass any all book_of stands_within
     falls_within verdict verdict_by
-    number_test number_bytes decimal decimal_in bytes place_of numbers_row statement_row statement_rows objection_row objection_rows
+    number_test number_bytes decimal decimal_in bytes place_of numbers_row statement_row statement_rows objection_row
+    objection_rows
 table_holds = holds table tt
 
 pub reasons_hold : Every Says reasons
@@ -131,7 +132,8 @@ unfolding reasons in_parts ascii field behind guess_mark guess_fields guess_line
     spell_number behind_line guess_first line_count register_of
     same issued numbered differ known distinct ordered accepted inside test_of pass any all book_of stands_within falls_within
     verdict verdict_by
-    number_test number_bytes decimal decimal_in bytes place_of statement_row objection_row objection_rows keep counts belonging reaching
+    number_test number_bytes decimal decimal_in bytes place_of statement_row objection_row objection_rows keep counts belonging
+    reaching
 reasons_hold = holds reasons tt
 
 pub sheets_hold : Every Says sheets

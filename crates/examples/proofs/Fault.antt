@@ -8,7 +8,8 @@ use native.Mathlib.Omega.{arith}
 use lib.Dec.{T, eqb}
 use lib.ListN.{get_or, length, length-map}
 use Rattle.register.specs.Lines.{BeginsWith}
-use Rattle.register.specs.Register.{Register, Valid, Issued as OnRegister, Has, objector_numbers, target_numbers, written, numbers}
+use Rattle.register.specs.Register.{Register, Valid, Issued as OnRegister, Has, objector_numbers, target_numbers, written}
+use Rattle.register.specs.Register.{numbers}
 use Rattle.register.specs.Register.{Places, place_of}
 use Rattle.register.specs.Reads.{Accepts, Refuses, NotEnded, FaultAt, NextStatement, NextObjection}
 use Rattle.register.specs.TextFaults.{text_fault_place}
@@ -90,11 +91,13 @@ module _ (s : List ℕ) (R : Register) (rest : List ℕ) where
 
   abbrev pub at_statement : (k : ℕ) (Fault : Register → StatementLine → Type 0) → ((st : StatementLine) → Test (Fault R st))
       → Test (FaultAt s k (λ R rest. NextStatement rest (Fault R)))
-  at_statement k Fault test = reached k (λ R rest. NextStatement rest (Fault R)) (of_statement (guess_line rest) rest (Fault R) test)
+  at_statement k Fault test = reached k (λ R rest. NextStatement rest (Fault R))
+      (of_statement (guess_line rest) rest (Fault R) test)
 
   abbrev pub at_objection : (k : ℕ) (Fault : Register → ObjectionLine → Type 0) → ((o : ObjectionLine) → Test (Fault R o))
       → Test (FaultAt s k (λ R rest. NextObjection rest (Fault R)))
-  at_objection k Fault test = reached k (λ R rest. NextObjection rest (Fault R)) (of_objection (guess_line rest) rest (Fault R) test)
+  at_objection k Fault test = reached k (λ R rest. NextObjection rest (Fault R))
+      (of_objection (guess_line rest) rest (Fault R) test)
 
   abbrev pub fault_behind : (f : TextFault) → Test (Refuses s f)
   fault_behind TooLong = decided (below 65535 (length s))

@@ -81,7 +81,8 @@ texts : Texts
 unfolding ascii field behind guess_mark guess_fields guess_line spell
     spell_number behind_line guess_first line_count register_of same issued numbered
     differ known distinct ordered accepted inside coded packed code_at total count any all book_of stands_within falls_within
-    verdict verdict_by number_test number_bytes decimal decimal_in bytes place_of numbers_row statement_row statement_rows objection_rows
+    verdict verdict_by number_test number_bytes decimal decimal_in bytes place_of numbers_row statement_row statement_rows
+    objection_rows
     keep counts belonging reaching
 texts = record {
   labels = (text.statements lone_bytes account_number nines (Given 1) (1 ∷ 9 ∷ 9 ∷ 9 ∷ [])).is tt;

@@ -11,7 +11,8 @@ use Rattle.game.proofs.UpTo.{up_to, length_up_to, get_or_up_to}
 use Rattle.register.specs.Texts.{decimal, decimal_in, rows_to}
 use Rattle.register.specs.Number.{number_bytes}
 use Rattle.register.specs.Lines.{line_bytes, mark_byte, WellFormed, BeginsWith}
-use Rattle.register.specs.Register.{Register, Valid, Issued as OnRegister, numbers, objector_numbers, target_numbers, lines, bytes}
+use Rattle.register.specs.Register.{Register, Valid, Issued as OnRegister, numbers, objector_numbers, target_numbers, lines}
+use Rattle.register.specs.Register.{bytes}
 use Rattle.register.specs.Register.{written, bare}
 use Rattle.register.specs.Reads.{Accepts, Refuses, FaultAt, NotEnded}
 use Rattle.register.specs.declared.Mark.TheVariants.{Read}
@@ -143,7 +144,12 @@ module _ (n m : ℕ) where
         )
 
     text_accepted_lem : Accepts (text_of n m) R
-    text_accepted_lem = record { fits = omega (arith, text_short, few, few-more); valid = register_valid; is_written = text_written }
+    text_accepted_lem = record {
+      fits = omega (arith, text_short, few, few-more);
+      valid = register_valid;
+      is_written =
+          text_written;
+    }
 
     -- there is space for one line more
     pub more_fits : (l : Line) → length (line_bytes l) ≤ 32 → length (text_of n m ++ line_bytes l) ≤ 65535

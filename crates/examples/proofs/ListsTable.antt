@@ -133,7 +133,8 @@ module _ (marks objectors targets : List ℕ) where
         objecting l k (omega (arith, e, h)),
         refl,
       )))
-      (begins n room after (λ k e. (a : Account) × OfObjection made (get_or objectors k 0) (get_or targets k 0) a × (e ≡ number a))
+      (begins n room after (λ k e. (a : Account) × OfObjection made (get_or objectors k 0) (get_or targets k 0) a ×
+      (e ≡ number a))
       (λ k. number (kind_account (kind_at made (get_or objectors k 0) (get_or targets k 0)))))
 
   abbrev pub kinds_of : (rooms : List ℕ × List ℕ) (a : Answer) (after : List ℕ × List ℕ)
@@ -156,7 +157,8 @@ module _ (marks objectors targets : List ℕ) where
       (both_of (decided (below place (length marks))) (both_of (argued made place)
       (decided (below (length room) (length (argument_of made place))))))))
       (λ n after. so (λ (h, (r, w)) l. (h, (argument_of made place, r (listed place h), w)))
-      (both_of (decided (below place (length marks))) (both_of (argued made place) (writes n room after (argument_of made place)))))
+      (both_of (decided (below place (length marks))) (both_of (argued made place)
+      (writes n room after (argument_of made place)))))
       (unchanged room)
 
   -- the class exercise about it
@@ -194,6 +196,7 @@ test_of (exercise m o t place turns c) =
 
 -- Every row holds.
 pub lists_table_holds : Every OnListsSays lists_table
-unfolding lists_table test_of pass refusal_of same first_from onward_test same_verdict next_of next_test line_of line_test exercise_of
+unfolding lists_table test_of pass refusal_of same first_from onward_test same_verdict next_of next_test line_of line_test
+    exercise_of
     any all book_of stands_within falls_within verdict verdict_by
 lists_table_holds = pass_is OnListsSays (λ r. (test_of r).passes) (λ r t. (test_of r).is t) lists_table tt

@@ -16,7 +16,8 @@ use Rattle.register.specs.Lines.{line_bytes}
 use Rattle.register.specs.Register.{bytes, written}
 use Rattle.register.proofs.Decimals.{spell}
 use Rattle.register.proofs.Number.{number_test, spell_number}
-use Rattle.register.proofs.Guess.{field, behind, guess_mark, guess_fields, guess_line, ahead, formed_test, begins_test, begins_tested}
+use Rattle.register.proofs.Guess.{field, behind, guess_mark, guess_fields, guess_line, ahead, formed_test, begins_test}
+use Rattle.register.proofs.Guess.{begins_tested}
 use Rattle.register.proofs.Guess.{spoiled_test, spoiled_tested}
 use Rattle.mend.specs.TextLines.{TextLine, good, spoiled, unended, Unbroken, LinesOf}
 use Rattle.mend.specs.Fate.{Fate, kept, moved, dropped, unended_line, spoiled_line, second_statement, statement_limit}
@@ -97,7 +98,8 @@ lines_tested s [] t = same_is s [] t
 lines_tested s (good l ∷ ls) t =
     let (p, q) = both (begins_test l s) (lines_test (drop (length (line_bytes l)) s) ls) t in
     let (f, (rest, e)) = begins_tested l s p in
-    let left : drop (length (line_bytes l)) s ≡ rest = ap (drop (length (line_bytes l))) e ∙ drop-append_seam (line_bytes l) rest in
+    let left : drop (length (line_bytes l)) s ≡ rest = ap (drop (length (line_bytes l))) e ∙ drop-append_seam (line_bytes l) rest
+    in
     (rest, f, e, subst (λ r. LinesOf r ls) left (lines_tested (drop (length (line_bytes l)) s) ls q))
 lines_tested s (spoiled ∷ ls) t =
     let (p, q) = both (spoiled_test s && ended_test s) (lines_test (behind_line s) ls) t in
@@ -140,7 +142,8 @@ pub mendings_hold : Every Mending mendings
 unfolding mendings passes pass ascii in_parts field behind guess_mark guess_fields guess_line spell
     spell_number ahead formed_test begins_test
     spoiled_test behind_line line_count unended_test same ended_test text_lines lines_in lines_test mend_test
-    number_test number_bytes decimal decimal_in bytes any settle_statement settle_objection with_statements with_objections fates_from
+    number_test number_bytes decimal decimal_in bytes any settle_statement settle_objection with_statements with_objections
+    fates_from
     rows_to report_row report_of
 mendings_hold = pass_is Mending passes passes_is mendings tt
 

@@ -64,7 +64,8 @@ text_by number room =
 test_of : (r : NumberRow) → Test (OnNumberSays r)
 test_of (code written c) = in_numbers (NumberCode (ascii written)) refusal_of c (code_by (ascii written))
 test_of (text number room c after) =
-    in_numbers (λ a. NumberText number (ascii room) a (ascii after)) refusal_of c (λ a. text_by number (ascii room) a (ascii after))
+    in_numbers (λ a. NumberText number (ascii room) a (ascii after)) refusal_of c
+    (λ a. text_by number (ascii room) a (ascii after))
 
 -- Every row holds.
 pub number_table_holds : Every OnNumberSays number_table

@@ -15,7 +15,8 @@ use Rattle.register.specs.Reads.{Accepts}
 use Rattle.register.specs.declared.TextFault.{TextFault}
 use Rattle.register.proofs.Decimals.{spell}
 use Rattle.register.proofs.Number.{number_test, spell_number}
-use Rattle.register.proofs.Guess.{field, behind, guess_mark, guess_fields, guess_line, ahead, formed_test, begins_test, spoiled_test}
+use Rattle.register.proofs.Guess.{field, behind, guess_mark, guess_fields, guess_line, ahead, formed_test, begins_test}
+use Rattle.register.proofs.Guess.{spoiled_test}
 use Rattle.answer.specs.Refusals.{refusal_number, refusal_place}
 use Rattle.answer.specs.declared.Refusal.{Refusal}
 use Rattle.answer.specs.declared.Refusal.TheVariants.{Text, Asked}
@@ -80,7 +81,8 @@ module _ (s line : List ℕ) where
         ))
         (both_of (decided (names argument)) (both_of (placed_there R asked) (decided (alike line (reason_of R place)))))
 
-    abbrev pub reason_or_none : Test (Accepts s R → ReasonNamed R argument line ⊎ (NoneNamed R argument × PrintsRefusal Asked line))
+    abbrev pub reason_or_none : Test (Accepts s R → ReasonNamed R argument line ⊎
+        (NoneNamed R argument × PrintsRefusal Asked line))
     reason_or_none =
         so (λ w a. ⊎_elim (λ f. inl (f a)) (λ g. inr g) w)
         (either_of reason_named (both_of none_named (prints_refusal Asked line)))
@@ -97,8 +99,10 @@ test_of (reason text argument line) = prints_reason (ascii text) (ascii line) (a
 pub printed_holds : Every Printing printed
 unfolding printed test_of pass ascii field behind guess_mark guess_fields guess_line spell
     spell_number ahead formed_test begins_test spoiled_test
-    behind_line rest_from guess_first line_count register_of same issued numbered differ known distinct ordered accepted unended_test
+    behind_line rest_from guess_first line_count register_of same issued numbered differ known distinct ordered accepted
+    unended_test
     fault_of inside any all book_of stands_within falls_within verdict verdict_by
-    number_test number_bytes decimal decimal_in bytes place_of numbers_row statement_row statement_rows objection_row objection_rows keep
+    number_test number_bytes decimal decimal_in bytes place_of numbers_row statement_row statement_rows objection_row
+    objection_rows keep
     counts belonging reaching
 printed_holds = pass_is Printing (λ r. (test_of r).passes) (λ r t. (test_of r).is t) printed tt

@@ -76,7 +76,8 @@ module _ (n : ℕ) (room after : List ℕ) where
 
   abbrev pub kept_at : (k : ℕ) → Test (Kept k)
   kept_at k =
-      so (λ (w : (k < n) ⊎ (get_or after k 0 ≡ get_or room k 0)) (h : n ≤ k). ⊎_elim (λ (l : k < n). absurd (omega arith)) (λ e. e) w)
+      so (λ (w : (k < n) ⊎ (get_or after k 0 ≡ get_or room k 0)) (h : n ≤ k). ⊎_elim (λ (l : k < n). absurd (omega arith))
+      (λ e. e) w)
       (either_of (decided (below k n)) (decided (equals (get_or after k 0) (get_or room k 0))))
 
   abbrev pub begins : (entry : ℕ → ℕ → Type 0) (value : ℕ → ℕ)
@@ -94,7 +95,8 @@ module _ (n : ℕ) (room after : List ℕ) where
   -- it begins with the list
   abbrev pub writes : (l : List ℕ) → Test (Written l room n after)
   writes l =
-      so (λ (e, (h, is)). (e, h, is)) (both_of (decided (equals n (length l))) (both_of (decided (at_most (length l) (length room)))
+      so (λ (e, (h, is)). (e, h, is)) (both_of (decided (equals n (length l)))
+      (both_of (decided (at_most (length l) (length room)))
       (decided (alike after (l ++ drop (length l) room)))))
 
 -- which of the later refusals it is

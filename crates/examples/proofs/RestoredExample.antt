@@ -106,7 +106,8 @@ put_back (suc (suc zero)) (suc (suc x)) h l = absurd (omega (arith, l))
 put_back (suc (suc (suc y))) x h l = absurd (omega (arith, h))
 
 restored : Restored lines back
-unfolding lines left back book_of settle_statement settle_objection with_statements with_objections fates_from statements_staying any
+unfolding lines left back book_of settle_statement settle_objection with_statements with_objections fates_from statements_staying
+    any
 restored = record {
   new = 9 ∷ [];
   new_once = λ i j h l e. omega (arith, h, l);

@@ -19,7 +19,8 @@ use Rattle.register.specs.Register.{Register, book, bytes, place_of, Places, Iss
 use Rattle.register.specs.Reads.{Accepts}
 use Rattle.register.proofs.Decimals.{spell}
 use Rattle.register.proofs.Number.{number_test, spell_number}
-use Rattle.register.proofs.Guess.{field, behind, guess_mark, guess_fields, guess_line, ahead, formed_test, begins_test, spoiled_test}
+use Rattle.register.proofs.Guess.{field, behind, guess_mark, guess_fields, guess_line, ahead, formed_test, begins_test}
+use Rattle.register.proofs.Guess.{spoiled_test}
 use Rattle.answer.specs.declared.Refusal.{Refusal}
 use Rattle.answer.specs.declared.Refusal.TheVariants as refusal
 use Rattle.answer.specs.declared.Answer.{Answer}
@@ -140,7 +141,8 @@ module _ (s : List ℕ) where
           place,
           p,
           (argument_of (book R) place, r (placed R t.valid place (counted R number place p)), h),
-        )) (both_of here (both_of (argued (book R) place) (decided (below (length room) (length (argument_of (book R) place))))))))
+        )) (both_of here (both_of (argued (book R) place) (decided (below (length room)
+        (length (argument_of (book R) place))))))))
         (λ n after. so (λ (p, (r, w)) (t : Accepts s R). (
           place,
           p,
@@ -233,7 +235,8 @@ module _ (s : List ℕ) where
 
     abbrev pub mend_by : (a : Answer) (after : Lent) → Test (TextMend s lent a after)
     mend_by =
-        on_input (Lined s) (LinesRefused s) (λ ls. Short (MendedShort ls lent)) (λ ls. MendedIn ls lent) lent ls lined (λ r. never)
+        on_input (Lined s) (LinesRefused s) (λ ls. Short (MendedShort ls lent)) (λ ls. MendedIn ls lent) lent ls lined
+        (λ r. never)
         (short mended_short) mended_in all_unchanged
 
 -- the refusal that the two numbers tell
@@ -247,12 +250,14 @@ test_of : (r : TextRow) → Test (OnTextSays r)
 test_of (labels text room c after) =
     in_numbers (λ a. TextLabels (ascii text) room a after) refusal_of c (λ a. statements (ascii text) account_number room a after)
 test_of (lengths text room c after) =
-    in_numbers (λ a. TextLengths (ascii text) room a after) refusal_of c (λ a. statements (ascii text) account_length room a after)
+    in_numbers (λ a. TextLengths (ascii text) room a after) refusal_of c (λ a. statements (ascii text) account_length room a
+    after)
 test_of (listing text room c after) =
     in_numbers (λ a. TextListing (ascii text) (ascii room) a (ascii after)) refusal_of c
     (λ a. listed (ascii text) (ascii room) a (ascii after))
 test_of (argument text number room c after) =
-    in_numbers (λ a. TextArgument (ascii text) number room a after) refusal_of c (λ a. argument_by (ascii text) number room a after)
+    in_numbers (λ a. TextArgument (ascii text) number room a after) refusal_of c
+    (λ a. argument_by (ascii text) number room a after)
 test_of (exercise text number turns c) =
     in_numbers (TextExercise (ascii text) number turns) refusal_of c (exercise_by (ascii text) number turns)
 test_of (reason text number room c after) =
@@ -274,6 +279,7 @@ unfolding text_table test_of pass refusal_of fault_of
     unended_test inside coded packed code_at total count
     first_from onward_test same_verdict next_of next_test line_of line_test exercise_of
     any all book_of stands_within falls_within verdict verdict_by
-    number_test number_bytes decimal decimal_in bytes place_of numbers_row statement_row statement_rows objection_row objection_rows keep
+    number_test number_bytes decimal decimal_in bytes place_of numbers_row statement_row statement_rows objection_row
+    objection_rows keep
     counts belonging reaching
 text_table_holds = pass_is OnTextSays (λ r. (test_of r).passes) (λ r t. (test_of r).is t) text_table tt

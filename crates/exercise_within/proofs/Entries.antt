@@ -63,7 +63,8 @@ module _ (marks objectors targets : List ℕ) where
           → true ≡ falls_within B turns x
       falls_some turns n s =
           subst (λ t. true ≡ falls_within B t x) (ahead turns n)
-          (yes_of (falls_within B (suc (turns - 1)) x) (falls_by B (turns - 1) x (get_or objectors e 0) (named x e l o) (passes s)))
+          (yes_of (falls_within B (suc (turns - 1)) x) (falls_by B (turns - 1) x (get_or objectors e 0) (named x e l o)
+          (passes s)))
 
       -- an objection has been made and no turn is left
       pub stands_late : (turns : ℕ) → turns ≡ 0 → false ≡ stands_within B turns x
@@ -93,7 +94,8 @@ module _ (marks objectors targets : List ℕ) where
     unfolding book_of
     read x z = refute (eqb (get_or marks x 0) 1) (λ u. omega (arith, eqb→eq (get_or marks x 0) 1 u))
 
-    pub stands_all : (x turns : ℕ) → get_or marks x 0 ≡ 0 → ((e : ℕ) → e < length targets → get_or targets e 0 ≡ x → Beaten turns e)
+    pub stands_all : (x turns : ℕ) → get_or marks x 0 ≡ 0 → ((e : ℕ) → e < length targets → get_or targets e 0 ≡ x → Beaten turns
+        e)
         → true ≡ stands_within B turns x
     stands_all x turns z f = go (ℕ_discrete turns 0)
       where

@@ -46,19 +46,20 @@ module _ {marks objectors targets head next : List ℕ} (x turns : ℕ)
     falls_at_once z = (falls_none marks objectors targets turns x z, k)
 
     module _ (late : turns ≡ 0 → ⊥) (c : ℕ) (w : Walk targets (length targets) x (Weak marks objectors targets turns) c) where
-      module _ (n : c ≡ 0 → ⊥) (y : ℕ) (r : Bool) (e : y ≡ get_or objectors (c - 1) 0) (a : r ≡ stands_within B (turns - 1) y) where
-        here : (b : Bool) → r ≡ b → stands_within B (turns - 1) (get_or objectors (c - 1) 0) ≡ b
-        here b = said (stands_within B (turns - 1)) y (get_or objectors (c - 1) 0) r b e a
+      module _ (n : c ≡ 0 → ⊥) (y : ℕ) (r : Bool) (e : y ≡ get_or objectors (c - 1) 0) (a : r ≡ stands_within B (turns - 1) y)
+        where
+          here : (b : Bool) → r ≡ b → stands_within B (turns - 1) (get_or objectors (c - 1) 0) ≡ b
+          here b = said (stands_within B (turns - 1)) y (get_or objectors (c - 1) 0) r b e a
 
-        pub falls_goes_on : r ≡ false → {d : ℕ} → d ≡ get_or next (c - 1) 0
-            → Walk targets (length targets) x (Weak marks objectors targets turns) d × Known B falls stands
-        falls_goes_on p q = (walk_more ch.1.chained w n q (here false p), k)
+          pub falls_goes_on : r ≡ false → {d : ℕ} → d ≡ get_or next (c - 1) 0
+              → Walk targets (length targets) x (Weak marks objectors targets turns) d × Known B falls stands
+          falls_goes_on p q = (walk_more ch.1.chained w n q (here false p), k)
 
-        pub falls_found : r ≡ true → (true ≡ falls_within B turns x) × Known B (set falls (turns * 1024 + x) 2) stands
-        falls_found p =
-            let (l, o) = walk_entry w n in
-            falls_put B falls stands k turns x small asked.2 true
-            (falls_some marks objectors targets ch.0 x (c - 1) l o turns late (here true p))
+          pub falls_found : r ≡ true → (true ≡ falls_within B turns x) × Known B (set falls (turns * 1024 + x) 2) stands
+          falls_found p =
+              let (l, o) = walk_entry w n in
+              falls_put B falls stands k turns x small asked.2 true
+              (falls_some marks objectors targets ch.0 x (c - 1) l o turns late (here true p))
 
       pub falls_ends : c ≡ 0 → (false ≡ falls_within B turns x) × Known B (set falls (turns * 1024 + x) 1) stands
       falls_ends z =

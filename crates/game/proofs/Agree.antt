@@ -130,7 +130,8 @@ module _ (B : Book) (v : ℕ → Verdict) where
         let (k, e, h) = falls_label (suc m) y o.0 (stands_at B (suc m) x s y o) in
         go y o g k e h
       where
-        go : (y : ℕ) → Objects B y x → T (not (falls_within B m y)) → (k : ℕ) → v y ≡ falls k → k ≤ suc m → (y : ℕ) × Objects B y x
+        go : (y : ℕ) → Objects B y x → T (not (falls_within B m y)) → (k : ℕ) → v y ≡ falls k → k ≤ suc m → (y : ℕ) × Objects B y
+            x
             × (v y ≡ falls (suc m))
         go y o g k e h =
             let p : Ruled B y (falls k) = subst (λ w. Ruled B y w) e (ruled y o.0) in

@@ -27,7 +27,8 @@ counts v none = false
 counts v (some κ) = hangs_on v κ
 
 -- An objection belongs to reasons if its target hangs on its kind, by the verdicts of its two ends.
-pub belongs_by : (B : Book) (y x : ℕ) (v w : Verdict) (κ : Kind) → Objects B y x → Means B x v → Means B y w → kind_of v w ≡ some κ
+pub belongs_by : (B : Book) (y x : ℕ) (v w : Verdict) (κ : Kind) → Objects B y x → Means B x v → Means B y w → kind_of v w ≡ some
+    κ
     → T (hangs_on v κ) → Belongs B y x
 belongs_by B y x v w κ o p q e h = record {
   kind = κ;

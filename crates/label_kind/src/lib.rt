@@ -13,14 +13,6 @@ ghost use Rattle.label_solve.specs.Labelled.{Labelled};
 use game::Kind;
 use pair_chain::place;
 
-// Stands where the table of kinds says "never occurs": nobody can meet what it asks.
-fn never() -> Kind
-    requires { ⊥ }
-    ensures { ⊥ }
-{
-    Kind::Idle
-}
-
 // The kind of an objection, by the label numbers (0 open, 1 stands, 2 falls) of its target, then of its objector. `length`
 // is the objector's.
 pub fn kind_of(target: u8, objector: u8, length: u16) -> Kind
@@ -32,21 +24,21 @@ pub fn kind_of(target: u8, objector: u8, length: u16) -> Kind
             1 => Kind::Felling(length + 1),
             2 => Kind::Idle,
             0 => Kind::Idle,
-            _ => never(),
+            _ => unreachable!(),
         },
         1 => match objector {
-            1 => never(),
+            1 => unreachable!(),
             2 => Kind::Delaying(length + 1),
-            0 => never(),
-            _ => never(),
+            0 => unreachable!(),
+            _ => unreachable!(),
         },
         0 => match objector {
-            1 => never(),
+            1 => unreachable!(),
             2 => Kind::Idle,
             0 => Kind::Standoff,
-            _ => never(),
+            _ => unreachable!(),
         },
-        _ => never(),
+        _ => unreachable!(),
     }
 }
 

@@ -40,7 +40,8 @@ cnt_other (t ∷ ts) (zero ∷ ds) (suc e) v x n ht = ap (one (eqb t x)) (cnt_ot
 cnt_other (t ∷ ts) (suc d ∷ ds) (suc e) v x n ht = cnt_other ts ds e v x n (le_of_suc-le-suc ht)
 
 -- none left: each objection against x is done
-pub cnt_none : (ts ds : List ℕ) (e x : ℕ) → cnt ts ds x ≡ 0 → e < length ts → e < length ds → get_or ts e 0 ≡ x → get_or ds e 0 ≡ 0
+pub cnt_none : (ts ds : List ℕ) (e x : ℕ) → cnt ts ds x ≡ 0 → e < length ts → e < length ds → get_or ts e 0 ≡ x → get_or ds e 0 ≡
+    0
     → ⊥
 cnt_none ts ds e x c ht hd p z = omega (arith, cnt_flip ts ds e x ht hd z p)
 

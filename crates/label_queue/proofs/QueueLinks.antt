@@ -11,7 +11,8 @@ use Rattle.pair_chain.proofs.ChainSteps.{Stored, stored}
 use Rattle.label_queue.specs.Queue.{Counted, cnt}
 use Rattle.label_queue.proofs.Counts.{cnt_ones, cnt_other, cnt_flip}
 
-pub counted_none : (marks targets left : List ℕ) → ((x : ℕ) → x < length marks → get_or left x 0 ≡ 0) → Counted marks targets 0 left
+pub counted_none : (marks targets left : List ℕ) → ((x : ℕ) → x < length marks → get_or left x 0 ≡ 0) → Counted marks targets 0
+    left
 counted_none marks targets left z = record {
   done = replicate (length targets) 1;
   room = length-replicate (length targets) 1;

@@ -41,7 +41,8 @@ module _ (marks objectors targets : List ℕ) (reg : Handed marks objectors targ
     (labels lengths left queue : List ℕ) (r : Run marks objectors targets lim s t y c k labels lengths left queue) where
   -- a place gets a label and goes to the end of the queue
   module _ (x v : ℕ) (hx : x < length marks) (hl : x < length labels) (hn : x < length lengths) (hq : t < length queue)
-      (z : get_or labels x 0 ≡ 0) (hv : 0 < v) (hs : s ≤ t) (ok : Sound marks objectors targets (set labels x v) (set lengths x k))
+      (z : get_or labels x 0 ≡ 0) (hv : 0 < v) (hs : s ≤ t) (ok : Sound marks objectors targets (set labels x v)
+      (set lengths x k))
     where
       pub push : Run marks objectors targets lim s (t + 1) y c k (set labels x v) (set lengths x k) left (set queue t x)
       push = record {
@@ -185,7 +186,8 @@ module _ (marks objectors targets : List ℕ) (reg : Handed marks objectors targ
     }
 
     -- the objection e of the falling y is looked at: its target has one objector less
-    module _ (x n : ℕ) (hx : get_or targets e 0 ≡ x) (hf : x < length left) (hn : n + 1 ≡ get_or left x 0) (l2 : get_or labels y 0 ≡ 2)
+    module _ (x n : ℕ) (hx : get_or targets e 0 ≡ x) (hf : x < length left) (hn : n + 1 ≡ get_or left x 0)
+        (l2 : get_or labels y 0 ≡ 2)
         (hk : get_or lengths y 0 + 1 ≡ k) (gone : Pending queue s t y → ⊥) where
       pub flip : (get_or marks x 0 ≡ 0 → n ≡ 0 → get_or labels x 0 ≡ 1)
           → Run marks objectors targets lim s t y (get_or next e 0) k labels lengths (set left x n) queue
@@ -315,7 +317,8 @@ pub record Link (marks objectors : List ℕ) (h t y v c k : ℕ) (labels lengths
 module _ (marks objectors targets head next : List ℕ) (ch : Chains marks objectors head next) where
   pub link_first : (lim s h t y c k v : ℕ) (labels lengths left queue : List ℕ)
       → Run marks objectors targets lim s t y c k labels lengths left queue → h < t → get_or labels (get_or queue h 0) 0 ≡ v
-      → Link marks objectors h t (get_or queue h 0) v (get_or head (get_or queue h 0) 0) (get_or lengths (get_or queue h 0) 0 + 1) labels
+      → Link marks objectors h t (get_or queue h 0) v (get_or head (get_or queue h 0) 0) (get_or lengths (get_or queue h 0) 0 + 1)
+      labels
       lengths queue
   link_first lim s h t y c k v labels lengths left queue r hh l = record {
     place = r.places h hh;
@@ -368,7 +371,8 @@ module _ {marks objectors targets : List ℕ} (reg : Handed marks objectors targ
 
   module _ {x : ℕ} (hx : get_or targets (c - 1) 0 ≡ x) where
     -- what is labelled already, y standing
-    pub fell_skip : v ≡ 1 → (get_or labels x 0 ≡ 0 → ⊥) → Run marks objectors targets lim (h + 1) t y (get_or next (c - 1) 0) k labels
+    pub fell_skip : v ≡ 1 → (get_or labels x 0 ≡ 0 → ⊥) → Run marks objectors targets lim (h + 1) t y (get_or next (c - 1) 0) k
+        labels
         lengths left queue × Link marks objectors h t y v (get_or next (c - 1) 0) k labels lengths queue
     fell_skip v1 n0 = (
       advance marks objectors targets reg lim (h + 1) t y c k labels lengths left queue r head next ch (c - 1) (omega arith)
@@ -587,7 +591,8 @@ finish marks objectors targets reg h t labels lengths left queue turn ht = recor
 pub enter : (marks objectors targets : List ℕ) → Handed marks objectors targets
     → (lim h t y₀ k₀ v y c : ℕ) (labels lengths left queue head next : List ℕ) → Chains marks objectors head next
     → Run marks objectors targets lim h t y₀ 0 k₀ labels lengths left queue → h < t → get_or labels (get_or queue h 0) 0 ≡ v
-    → y ≡ get_or queue h 0 → c ≡ get_or head y 0 → Run marks objectors targets lim (h + 1) t y c (get_or lengths y 0 + 1) labels lengths
+    → y ≡ get_or queue h 0 → c ≡ get_or head y 0 → Run marks objectors targets lim (h + 1) t y c (get_or lengths y 0 + 1) labels
+    lengths
     left queue × Link marks objectors h t y v c (get_or lengths y 0 + 1) labels lengths queue
 enter marks objectors targets reg lim h t y₀ k₀ v y c labels lengths left queue head next ch r hh l p q =
     rw (q, p) (

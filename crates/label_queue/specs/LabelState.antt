@@ -12,7 +12,8 @@ module _ (marks objectors targets labels lengths : List ℕ) where
         × (get_or labels (get_or objectors e 0) 0 ≡ 1) × (get_or lengths (get_or objectors e 0) 0 + 1 ≡ get_or lengths x 0)
     pub stood : (x : ℕ) → x < length marks → get_or labels x 0 ≡ 1 → get_or marks x 0 ≡ 0
     pub beaten : (e : ℕ) → e < length objectors → get_or labels (get_or targets e 0) 0 ≡ 1
-        → (get_or labels (get_or objectors e 0) 0 ≡ 2) × (get_or lengths (get_or objectors e 0) 0 + 1 ≤ get_or lengths (get_or targets e 0) 0)
+        → (get_or labels (get_or objectors e 0) 0 ≡ 2) × (get_or lengths (get_or objectors e 0) 0 + 1 ≤ get_or lengths
+        (get_or targets e 0) 0)
     pub tight : (x : ℕ) → x < length marks → get_or labels x 0 ≡ 1
         → (get_or lengths x 0 ≡ 0)
         ⊎ ((e : ℕ) × (e < length objectors) × (get_or targets e 0 ≡ x) ×
@@ -21,13 +22,15 @@ module _ (marks objectors targets labels lengths : List ℕ) where
   -- nothing is left to label
   pub record Full : Type 0 where
     pub fells : (e : ℕ) → e < length objectors → get_or labels (get_or objectors e 0) 0 ≡ 1
-        → (get_or labels (get_or targets e 0) 0 ≡ 2) × (get_or lengths (get_or targets e 0) 0 ≤ get_or lengths (get_or objectors e 0) 0 + 1)
+        → (get_or labels (get_or targets e 0) 0 ≡ 2) × (get_or lengths (get_or targets e 0) 0 ≤ get_or lengths
+        (get_or objectors e 0) 0 + 1)
     pub holds : (x : ℕ) → x < length marks → get_or marks x 0 ≡ 0 → (get_or labels x 0 ≡ 1 → ⊥)
         → (e : ℕ) × (e < length objectors) × (get_or targets e 0 ≡ x) × (get_or labels (get_or objectors e 0) 0 ≡ 2 → ⊥)
 
   -- the target of the entry e falls no later than its objector lets it
   abbrev pub Fells : ℕ → Type 0
-  Fells e = (get_or labels (get_or targets e 0) 0 ≡ 2) × (get_or lengths (get_or targets e 0) 0 ≤ get_or lengths (get_or objectors e 0) 0 + 1)
+  Fells e = (get_or labels (get_or targets e 0) 0 ≡ 2) × (get_or lengths (get_or targets e 0) 0 ≤ get_or lengths
+      (get_or objectors e 0) 0 + 1)
 
 -- how many places are not labelled
 unfoldable pub zeros : List ℕ → ℕ

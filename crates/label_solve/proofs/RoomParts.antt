@@ -15,7 +15,8 @@ part_length n room h = simp length-take (omega arith)
 -- beyond the part that was lent, the room is as it was
 pub beyond : (n : ℕ) (room part : List ℕ) → length part ≡ n → (k : ℕ) → n ≤ k → get_or (part ++ drop n room) k 0 ≡ get_or room k 0
 beyond n room part e k h =
-    ap (λ i. get_or (part ++ drop n room) i 0) at_k ∙ get_or-append-add part (drop n room) (k - n) 0 ∙ get_or-drop n room (k - n) 0
+    ap (λ i. get_or (part ++ drop n room) i 0) at_k ∙ get_or-append-add part (drop n room) (k - n) 0 ∙ get_or-drop n room (k - n)
+    0
     ∙ ap (λ i. get_or room i 0) back
   where
     at_k : k ≡ length part + (k - n)

@@ -33,7 +33,8 @@ use Rattle.register.specs.Reads.{Accepts}
 pub objections_once : (R : Register) (told told' : List Account) → ObjectionsTold R told → ObjectionsTold R told' → told ≡ told'
 objections_once R told told' a b =
     ext_get_or untold told told' (a.each ∙ sym b.each)
-    (λ k h. objection_once (book R) (get_or (objectors_of R) k 0) (get_or (targets_of R) k 0) (get_or told k untold) (get_or told' k untold)
+    (λ k h. objection_once (book R) (get_or (objectors_of R) k 0) (get_or (targets_of R) k 0) (get_or told k untold)
+    (get_or told' k untold)
     (a.is k (omega (arith, a.each))) (b.is k (omega (arith, a.each))))
 
 pub listing_once : (R : Register) (l l' : List ℕ) → IsListing R l → IsListing R l' → l ≡ l'

@@ -26,7 +26,8 @@ pub statement_pieces : (number : ℕ) (a : Account) → ((number_bytes number ++
 unfolding statement_row
 statement_pieces number a = simp append_assoc
 
-pub objection_pieces : (y x : ℕ) (a : Account) → ((((number_bytes y ++ (9 ∷ [])) ++ number_bytes x) ++ (9 ∷ [])) ++ account_fields a)
+pub objection_pieces : (y x : ℕ) (a : Account) → ((((number_bytes y ++ (9 ∷ [])) ++ number_bytes x) ++ (9 ∷ [])) ++ account_fields
+    a)
     ++
     (10 ∷ []) ≡ objection_row y x a
 unfolding objection_row

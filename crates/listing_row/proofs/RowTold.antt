@@ -62,13 +62,15 @@ module _ (nums marks objectors targets labels lengths : List ℕ)
       → OfKind B (get_or objectors k 0) (get_or targets k 0) κ → objection_row (get_or nums y 0) (get_or nums x 0)
       (kind_account κ) ≡ objection_row_at nums objectors targets labels lengths k
   row_told k y x κ h p q o =
-      rw (p, q) (ap (λ u. objection_row (get_or nums (get_or objectors k 0) 0) (get_or nums (get_or targets k 0) 0) (kind_account u))
+      rw (p, q) (ap (λ u. objection_row (get_or nums (get_or objectors k 0) 0) (get_or nums (get_or targets k 0) 0)
+      (kind_account u))
       (kind_told k κ h o))
 
   kind_of_entry : (k : ℕ) → k < length objectors → OfKind B (get_or objectors k 0) (get_or targets k 0)
       (kind_at objectors targets labels lengths k)
   kind_of_entry k h =
-      let objects : Objects B (get_or objectors k 0) (get_or targets k 0) = (objects_entry marks objectors targets (get_or objectors k 0)
+      let objects : Objects B (get_or objectors k 0) (get_or targets k 0) =
+      (objects_entry marks objectors targets (get_or objectors k 0)
       (get_or targets k 0)).1 (given.handed.order.objector k h, (k, (h, refl, refl))) in
       let (κ, o) = kind_exists B (get_or objectors k 0) (get_or targets k 0)
       (listed (get_or targets k 0) (given.handed.order.target k h)) objects in
@@ -100,7 +102,8 @@ module _ (R : Register) (nums marks objectors targets labels lengths : List ℕ)
       number_there R (objector_numbers R) k (omega (arith, length-map R.objections (λ (o : ObjectionLine). o.objector)))
       (ready.made.valid.known k h).0
 
-  target_number : (k : ℕ) → k < length R.objections → get_or (numbers R) (get_or (targets_of R) k 0) 0 ≡ get_or (target_numbers R) k 0
+  target_number : (k : ℕ) → k < length R.objections → get_or (numbers R) (get_or (targets_of R) k 0) 0 ≡ get_or (target_numbers R)
+      k 0
   target_number k h =
       number_there R (target_numbers R) k (omega (arith, length-map R.objections (λ (o : ObjectionLine). o.target)))
       (ready.made.valid.known k h).1
@@ -128,6 +131,7 @@ module _ (R : Register) (nums marks objectors targets labels lengths : List ℕ)
   }
 
   pub own_row : (k : ℕ) → k < length R.objections
-      → objection_row_at (numbers R) (objectors_of R) (targets_of R) labels lengths k ≡ objection_row (get_or (objector_numbers R) k 0)
+      → objection_row_at (numbers R) (objectors_of R) (targets_of R) labels lengths k ≡ objection_row
+      (get_or (objector_numbers R) k 0)
       (get_or (target_numbers R) k 0) (told k)
   own_row k h = ap₂ (λ y x. objection_row y x (told k)) (objector_number k h) (target_number k h)

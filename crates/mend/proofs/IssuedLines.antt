@@ -62,7 +62,8 @@ settled_from S st n = go (statement_case S st)
     more : Issued (bare (S ++ (st ∷ []))) n → Issued (bare S) n ⊎ (st.number ≡ n)
     more (i, h, e) = at (old_or_last (numbers (bare S)) st.number i (rw (numbers_more S st) at h))
       where
-        at : ((i < length (numbers (bare S))) × (get_or (numbers (bare S) ++ (st.number ∷ [])) i 0 ≡ get_or (numbers (bare S)) i 0))
+        at : ((i < length (numbers (bare S))) × (get_or (numbers (bare S) ++ (st.number ∷ [])) i 0 ≡ get_or (numbers (bare S)) i
+            0))
             ⊎ ((i ≡ length (numbers (bare S))) × (get_or (numbers (bare S) ++ (st.number ∷ [])) i 0 ≡ st.number))
             → Issued (bare S) n ⊎ (st.number ≡ n)
         at (inl (l, q)) = inl (i, l, sym q ∙ sym (ap (λ u. get_or u i 0) (numbers_more S st)) ∙ e)

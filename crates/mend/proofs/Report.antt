@@ -36,7 +36,8 @@ module _ (fates : List Fate) where
 pub last_reported : (fates : List Fate) (fate : Fate) → ((k : ℕ) → k < length fates → get_or fates k kept ≡ kept)
     → report_of (fates ++ (fate ∷ [])) ≡ row_of (suc (length fates)) fate
 last_reported fates fate all =
-    sym (all_rows both) ∙ ap (λ n. rows_to n (row_at both)) (length-append fates (fate ∷ [])) ∙ row_more (row_at both) (length fates)
+    sym (all_rows both) ∙ ap (λ n. rows_to n (row_at both)) (length-append fates (fate ∷ [])) ∙ row_more (row_at both)
+    (length fates)
     ∙ ap₂ (λ u v. u ++ v) (kept_rows both (length fates) (λ k h. get_or-append fates (fate ∷ []) kept k h ∙ all k h))
     (ap (row_of (suc (length fates))) (get_or_at fates fate [] kept (length fates) refl))
   where

@@ -47,7 +47,8 @@ module _ (s : List ℕ) (ls : List TextLine) (h : length s ≤ 65535) (p : Lines
       (kept_text (written (mended ls)) ms q f, none_reported ms f)
 
 -- "a report has at most 16 · 65,535 bytes"
-pub report_short : (s : List ℕ) (ls : List TextLine) → length s ≤ 65535 → LinesOf s ls → length (report_of (fates ls)) ≤ 16 * 65535
+pub report_short : (s : List ℕ) (ls : List TextLine) → length s ≤ 65535 → LinesOf s ls → length (report_of (fates ls)) ≤ 16 *
+    65535
 report_short s ls h p =
     let c : length (fates ls) ≡ length ls = fates_counted ls [] false (listed ls) in
     omega (

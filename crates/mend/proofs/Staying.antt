@@ -51,7 +51,8 @@ statements_from (good (Statement st) ∷ ls) S late R = go (λ S. statements_fro
         (on (S ++ (st ∷ []))
         ∙ ap (λ u. u ++ numbers_of (statements_staying ls (fates_from (S ++ (st ∷ [])) late R ls)))
         (map-append (λ (t : StatementLine). t.number) S (st ∷ []))
-        ∙ append_assoc (numbers_of S) (st.number ∷ []) (numbers_of (statements_staying ls (fates_from (S ++ (st ∷ [])) late R ls))))
+        ∙ append_assoc (numbers_of S) (st.number ∷ []) (numbers_of (statements_staying ls
+        (fates_from (S ++ (st ∷ [])) late R ls))))
 statements_from (good (Objection o) ∷ ls) S late R =
     statements_from ls S true (settle_objection R o).1
     ∙ ap (λ u. numbers_of S ++ numbers_of (u ++ statements_staying ls (fates_from S true (settle_objection R o).1 ls)))

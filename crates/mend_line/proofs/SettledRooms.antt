@@ -19,7 +19,8 @@ use Rattle.register.specs.Register.{Register, Valid, place_of, objector_numbers,
 use Rattle.register_read.specs.ReadState.{Holds, At, EndPlaces}
 use Rattle.register.proofs.Order.{marks_counted, numbers_counted}
 use Rattle.register.proofs.OneMore.{valid_statement, valid_objection}
-use Rattle.register_read.proofs.Held.{on_register_lem, off_register, holds_statement, stands_already, stands_nowhere, holds_objection}
+use Rattle.register_read.proofs.Held.{on_register_lem, off_register, holds_statement, stands_already, stands_nowhere}
+use Rattle.register_read.proofs.Held.{holds_objection}
 use Rattle.register_read.proofs.Held.{place_is}
 use Rattle.mend.specs.Mended.{unread_if, unread, settle_statement, settle_objection}
 use Rattle.mend.proofs.Settling.{settles_second, settles_beyond, settles_new, settles_unknown, settles_repeat, settles_past}

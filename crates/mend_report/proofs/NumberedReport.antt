@@ -81,4 +81,5 @@ unfolding numbered_report report_of
 report_is other fates =
     ap (λ n. rows_to n (row_at (map (fate_number other) fates))) (length-map fates (fate_number other))
     ∙ rows_same (length fates) (row_at (map (fate_number other) fates)) (λ k. row_of (suc k) (get_or fates k kept))
-    (λ k h. ap (numbered_row_of (suc k)) (get_or-map (fate_number other) fates k kept) ∙ row_is (suc k) other (get_or fates k kept))
+    (λ k h. ap (numbered_row_of (suc k)) (get_or-map (fate_number other) fates k kept) ∙ row_is (suc k) other
+    (get_or fates k kept))

@@ -14,7 +14,8 @@ use Rattle.register_read.specs.ReadState.{Holds}
 use Rattle.register.proofs.OneMore.{empty_valid}
 use Rattle.register_read.proofs.Held.{take_more, holds_back}
 use Rattle.mend.specs.TextLines.{TextLine, LinesOf, good, spoiled, unended}
-use Rattle.mend.specs.Mended.{fates, with_statements, with_statement, late_after, mended, with_objections, fates_from, listed, fate_of}
+use Rattle.mend.specs.Mended.{fates, with_statements, with_statement, late_after, mended, with_objections, fates_from, listed}
+use Rattle.mend.specs.Mended.{fate_of}
 use Rattle.mend.specs.Mended.{with_objection}
 use Rattle.mend.proofs.TextLines.{none_first, few_lines}
 use Rattle.mend_line.specs.SettledRooms.{told, Stated}

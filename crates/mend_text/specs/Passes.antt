@@ -1,6 +1,7 @@
 -- What reading any text line by line leaves in the lent rooms, not for callers of the product: first statements are settled, then
 -- objections, and each line has the number of its fate in a room of its own.
-use Rattle.std.specs.Prelude.{Bool, cond, false, ◌&&◌, List, map, [], ◌∷◌, ◌++◌, ◌≡◌, ℕ, ◌≤◌, ◌<◌, eqb, length, get_or, drop, set, take}
+use Rattle.std.specs.Prelude.{Bool, cond, false, ◌&&◌, List, map, [], ◌∷◌, ◌++◌, ◌≡◌, ℕ, ◌≤◌, ◌<◌, eqb, length, get_or, drop, set}
+use Rattle.std.specs.Prelude.{take}
 use Rattle.register.specs.Lines.{BeginsWith}
 use Rattle.register_line.specs.LineReading.{GotAt}
 use Rattle.register.specs.declared.StatementLine.{StatementLine}
@@ -10,7 +11,8 @@ use Rattle.register_line.specs.declared.Got.TheVariants.{Good as GoodLine}
 use Rattle.register.specs.Register.{Register, Valid}
 use Rattle.register_read.specs.ReadState.{Holds}
 use Rattle.mend.specs.TextLines.{Unbroken, TextLine, good, spoiled, unended, LinesOf}
-use Rattle.mend.specs.Mended.{moved_if, settle_statement, with_statement, late_after, settle_objection, fates, with_objection, listed}
+use Rattle.mend.specs.Mended.{moved_if, settle_statement, with_statement, late_after, settle_objection, fates, with_objection}
+use Rattle.mend.specs.Mended.{listed}
 use Rattle.mend.specs.Mended.{mended}
 use Rattle.mend_line.specs.SettledRooms.{told, Stated}
 use Rattle.mend_text.specs.declared.AnyLine.{AnyLine}

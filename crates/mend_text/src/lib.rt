@@ -189,7 +189,8 @@ fn pass_objection(
     n: usize,
     m: usize,
 ) -> ObjectionPass
-    requires at_in_bounds { (at < length text.now) × (k < length fates.old) × (n ≤ 1024) × (m ≤ 4096) × (1024 ≤ length marks.old) }
+    requires at_in_bounds { (at < length text.now) × (k < length fates.old) × (n ≤ 1024) × (m ≤ 4096)
+        × (1024 ≤ length marks.old) }
     requires objection_rooms { ObjectionRooms objectors.old targets.old × Indexed numbers.now n links.now
         × Entered n m objectors.old targets.old }
     ensures { ((ls : List TextLine) (R : Register) → LinesOf (drop at text.now) ls → Valid R
@@ -241,7 +242,8 @@ fn settle_objections(
 ) -> KeptCounts
     requires text_len_bound { (length text.now ≤ 65535) × StatementRooms numbers.now marks.old fates.old
         × ObjectionRooms objectors.old targets.old }
-    requires statements_settled { (ls : List TextLine) × StatementsSettled text.now ls n numbers.now marks.old links.now fates.old }
+    requires statements_settled { (ls : List TextLine)
+        × StatementsSettled text.now ls n numbers.now marks.old links.now fates.old }
     ensures { TextSettled text.now result numbers.now marks.new objectors.new
         targets.new fates.new }
 {

@@ -37,7 +37,8 @@ split {e} {i} h = go (dec_lt e i)
     go (no p) = inr (omega arith)
 
 -- the latest is found among the entries before m alone
-latest_same : {places others : List ℕ} {m v l : ℕ} → ((i : ℕ) → i < m → get_or others i 0 ≡ get_or places i 0) → Latest places m v l
+latest_same : {places others : List ℕ} {m v l : ℕ} → ((i : ℕ) → i < m → get_or others i 0 ≡ get_or places i 0) → Latest places m v
+    l
     → Latest others m v l
 latest_same same w = record {
   low = w.low;

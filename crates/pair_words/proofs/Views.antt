@@ -133,7 +133,8 @@ module _ (links : List ℕ) (e l : ℕ) (entry : e < 4096) (small : l < 4096) (w
     where
       go : Dec (e < 3072) → Dec (i < 3072) → Stored i e (link_by (with_link_by links e l) i) (link_by links i) l
       go (yes h) (yes j) =
-          rw (put_low links e l h, link_low (with_low links e l) i j, link_low links i j) (low_low links e l (omega arith) small i)
+          rw (put_low links e l h, link_low (with_low links e l) i j, link_low links i j)
+          (low_low links e l (omega arith) small i)
       go (yes h) (no j) =
           rw (put_low links e l h, link_high (with_low links e l) i (omega arith), link_high links i (omega arith))
           (inr ((λ p. omega arith), low_high links e l (omega arith) small (i - 3072)))

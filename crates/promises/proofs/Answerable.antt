@@ -169,7 +169,8 @@ module _ (marks objectors targets : List ℕ) where
     where
       told : Lists marks objectors targets → (number : Account → ℕ) (room : List ℕ) → length objectors ≤ length room
           → (after : List ℕ) × Begins (length objectors) (λ k e. (a : Account)
-          × OfObjection (book_of marks objectors targets) (get_or objectors k 0) (get_or targets k 0) a × (e ≡ number a)) room after
+          × OfObjection (book_of marks objectors targets) (get_or objectors k 0) (get_or targets k 0) a × (e ≡ number a)) room
+          after
       told l number room h =
           begins_there (length objectors) (λ k e. (a : Account)
           × OfObjection (book_of marks objectors targets) (get_or objectors k 0) (get_or targets k 0) a × (e ≡ number a)) room h

@@ -108,7 +108,8 @@ module _ (s : List ℕ) (R : Register) (a : Accepts s R) where
         length_says = subst (λ u. LengthSays (book R) x (account_length u)) e (length_says (book R) x g told (v, m, e));
       }
 
-  objection_row_says : (k : ℕ) (told : Account) → OfObjection (book R) (get_or (objectors_of R) k 0) (get_or (targets_of R) k 0) told
+  objection_row_says : (k : ℕ) (told : Account) → OfObjection (book R) (get_or (objectors_of R) k 0) (get_or (targets_of R) k 0)
+      told
       → ObjectionRowSays R k (objection_row (get_or (objector_numbers R) k 0) (get_or (target_numbers R) k 0) told)
   objection_row_says k told (κ, o, e) =
       let y = get_or (objectors_of R) k 0 in

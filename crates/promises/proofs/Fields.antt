@@ -275,8 +275,10 @@ module _ (P : ℕ → Type 0) (ends : ℕ → Type 0) (low-ends : (e : ℕ) → 
       (inr refl) (only_statement_lines S (λ i h. p (suc i) (omega arith)) more o))))
 
   pub only_objection_lines : (O : List ObjectionLine) → ((k : ℕ) → k < length O
-      → (IsNumber (get_or (map (λ (o : ObjectionLine). o.objector) O) k 0) × P (get_or (map (λ (o : ObjectionLine). o.objector) O) k
-      0)) × (IsNumber (get_or (map (λ (o : ObjectionLine). o.target) O) k 0) × P (get_or (map (λ (o : ObjectionLine). o.target) O) k
+      → (IsNumber (get_or (map (λ (o : ObjectionLine). o.objector) O) k 0) × P
+      (get_or (map (λ (o : ObjectionLine). o.objector) O) k
+      0)) × (IsNumber (get_or (map (λ (o : ObjectionLine). o.target) O) k 0) × P
+      (get_or (map (λ (o : ObjectionLine). o.target) O) k
       0))) → Only (bytes (map Objection O))
   unfolding bytes lettered above
   only_objection_lines [] p = only_none

@@ -147,7 +147,8 @@ module _ (R : Register) (v : Valid R) where
       (rows_to (length R.objections) w.objections) (objections_tabbed w.objections (λ k g. row k g (w.exactly k g))))
     where
       row : (k : ℕ) → k < length R.objections
-          → (InReason (book R) x (get_or (objectors_of R) k 0) (get_or (targets_of R) k 0) × ObjectionRowSays R k (w.objections k))
+          → (InReason (book R) x (get_or (objectors_of R) k 0) (get_or (targets_of R) k 0) × ObjectionRowSays R k
+          (w.objections k))
           ⊎ ((¬ InReason (book R) x (get_or (objectors_of R) k 0) (get_or (targets_of R) k 0)) × (w.objections k ≡ []))
           → (rest : List ℕ) → Tabbed rest → Tabbed (w.objections k ++ rest)
       row k g (inl (b, says)) = objection_row_lem k g (w.objections k) says

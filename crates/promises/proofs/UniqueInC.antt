@@ -30,7 +30,8 @@ use Rattle.answer.specs.declared.CAnswer.{CAnswer}
 pub in_c_unique : {Rooms : Type 0} (P : Answer → Rooms → Type 0)
     → ((a a' : Answer) (after after' : Rooms) → P a after → P a' after' → (a ≡ a') × (after ≡ after'))
     → (c c' : CAnswer) (after after' : Rooms) → InC (λ a. P a after) c → InC (λ a. P a after') c' → (c ≡ c') × (after ≡ after')
-in_c_unique P one c c' after after' (a, p, e) (a', p', e') = let (q, f) = one a a' after after' p p' in (e ∙ ap in_c q ∙ sym e', f)
+in_c_unique P one c c' after after' (a, p, e) (a', p', e') = let (q, f) = one a a' after after' p p' in
+    (e ∙ ap in_c q ∙ sym e', f)
 
 pub unique_batqemulo_pairs_labels : (marks objectors targets : List ℕ) (room : List ℕ) (c c' : CAnswer) (after after' : List ℕ)
     → InC (λ a. PairsLabels marks objectors targets room a after) c

@@ -35,7 +35,8 @@ module _ (marks objectors targets : List ℕ) where
           → after ≡ after'
       one_room number n room after after' b b' =
           let B = book_of marks objectors targets in
-          begins_unique (λ k e. (a : Account) × OfObjection B (get_or objectors k 0) (get_or targets k 0) a × (e ≡ number a)) room n
+          begins_unique (λ k e. (a : Account) × OfObjection B (get_or objectors k 0) (get_or targets k 0) a × (e ≡ number a)) room
+          n
           after
           after' (λ k i j h. number_once (OfObjection B (get_or objectors k 0) (get_or targets k 0))
           (objection_once B (get_or objectors k 0) (get_or targets k 0)) number i j) b b'

@@ -22,7 +22,8 @@ pub record StatementRowSays (R : Register) (x : ℕ) (row : List ℕ) : Type 0 w
 pub record ObjectionRowSays (R : Register) (k : ℕ) (row : List ℕ) : Type 0 where
   pub kind : Kind
   pub is : row ≡ objection_row (get_or (objector_numbers R) k 0) (get_or (target_numbers R) k 0) (kind_account kind)
-  pub kind_says : KindSays (book R) (get_or (objectors_of R) k 0) (get_or (targets_of R) k 0) (kind_number kind) (kind_length kind)
+  pub kind_says : KindSays (book R) (get_or (objectors_of R) k 0) (get_or (targets_of R) k 0) (kind_number kind)
+      (kind_length kind)
 
 -- "Header: the word, statements, objections." Then the rows of all statements, and of all objections.
 pub record ListingSays (R : Register) (listing : List ℕ) : Type 0 where

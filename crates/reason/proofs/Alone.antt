@@ -113,7 +113,8 @@ alone_there R valid x l =
     of_reason z = reaching (book R) x (book R).size z
 
     in_reason : ℕ → Bool
-    in_reason k = of_reason (get_or (targets_of R) k 0) && belonging (book R) (get_or (objectors_of R) k 0) (get_or (targets_of R) k 0)
+    in_reason k = of_reason (get_or (targets_of R) k 0) && belonging (book R) (get_or (objectors_of R) k 0)
+        (get_or (targets_of R) k 0)
 
 -- kept lines have no more bytes than all of them, if what stands behind has no more
 kept_bytes : {A : Type 0} (line : A → Line) (p : ℕ → Bool) (l : List A) (ls ms : List Line)
@@ -205,7 +206,8 @@ module _ (R : Register) (valid : Valid R) (x : ℕ) (l : x < length R.statements
         to : end_place S end k ≡ z → end_place R end (g k) ≡ f z
         to e =
             end_place_lem R valid end (g k) (f z) (objections.listed k h) (statements.listed z n)
-            (sym (same_number z n) ∙ ap (number S) (sym e) ∙ end_number_lem S alone_valid end known' k h ∙ objections.entry end k h)
+            (sym (same_number z n) ∙ ap (number S) (sym e) ∙ end_number_lem S alone_valid end known' k h ∙ objections.entry end k
+            h)
 
         from : end_place R end (g k) ≡ f z → end_place S end k ≡ z
         from e =

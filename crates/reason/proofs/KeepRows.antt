@@ -55,7 +55,8 @@ keep_rows p [] told = sym (no_rows (row_if p [] told))
 keep_rows p (o ∷ O) told =
     go (keep_rows (λ k. p (suc k)) O (λ k. told (suc k))) (p 0) ∙ sym (row_first (row_if p (o ∷ O) told) (length O))
   where
-    go : objection_rows (keep (λ k. p (suc k)) O) (keep (λ k. p (suc k)) (up_to (length O) (λ k. told (suc k)))) ≡ rows_to (length O)
+    go : objection_rows (keep (λ k. p (suc k)) O) (keep (λ k. p (suc k)) (up_to (length O) (λ k. told (suc k)))) ≡ rows_to
+        (length O)
         (row_if (λ k. p (suc k)) O (λ k. told (suc k))) → (b : Bool)
         → objection_rows (cond b (o ∷ keep (λ k. p (suc k)) O) (keep (λ k. p (suc k)) O))
         (cond b (told 0 ∷ keep (λ k. p (suc k)) (up_to (length O) (λ k. told (suc k))))

@@ -190,5 +190,6 @@ module _ (marks objectors targets : List ℕ) (a : ℕ) (inside : List ℕ) (k :
           → Ticked inside j ↔ InReason (book_of marks objectors targets) a (get_or objectors j 0) (get_or targets j 0)
       here j e = (
         λ m. absurd (m (c.1 j (omega arith))),
-        λ r. absurd (n (subst (λ u. InReason (book_of marks objectors targets) a (get_or objectors u 0) (get_or targets u 0)) e r)),
+        λ r. absurd (n (subst (λ u. InReason (book_of marks objectors targets) a (get_or objectors u 0) (get_or targets u 0)) e
+            r)),
       )

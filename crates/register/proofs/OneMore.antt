@@ -40,7 +40,8 @@ longer : (l : List ℕ) (v : ℕ) → length (l ++ (v ∷ [])) ≡ length l + 1
 longer l v = length-append l (v ∷ [])
 
 -- an entry of it is an old one or the last
-pub old_or_last : (l : List ℕ) (v k : ℕ) → k < length (l ++ (v ∷ [])) → ((k < length l) × (get_or (l ++ (v ∷ [])) k 0 ≡ get_or l k 0))
+pub old_or_last : (l : List ℕ) (v k : ℕ) → k < length (l ++ (v ∷ [])) → ((k < length l) ×
+    (get_or (l ++ (v ∷ [])) k 0 ≡ get_or l k 0))
     ⊎ ((k ≡ length l) × (get_or (l ++ (v ∷ [])) k 0 ≡ v))
 old_or_last l v k h = go (dec_lt k (length l))
   where
@@ -79,7 +80,8 @@ written_statement S st =
         nil [] = refl
         nil (x ∷ ls) = ap (λ v. x ∷ v) (nil ls)
 
-pub written_objection : (R : Register) (o : ObjectionLine) → written (with_objection_lem R o) ≡ written R ++ line_bytes (Objection o)
+pub written_objection : (R : Register) (o : ObjectionLine) → written (with_objection_lem R o) ≡ written R ++ line_bytes
+    (Objection o)
 written_objection R o =
     ap (λ ls. bytes (map Statement R.statements ++ ls)) (map-append Objection R.objections (o ∷ []))
     ∙ ap bytes (sym (append_assoc (map Statement R.statements) (map Objection R.objections) (Objection o ∷ [])))
@@ -211,8 +213,10 @@ module _ (R : Register) (o : ObjectionLine) where
       known k (inl (a, b, c)) = rw (b, c) (v.known k a)
       known k (inr (a, b, c)) = rw (b, c) (y, x)
 
-      distinct : (j k : ℕ) → j < k → get_or (objector_numbers (with_objection_lem R o)) j 0 ≡ get_or (objector_numbers (with_objection_lem R o))
-          k 0 → get_or (target_numbers (with_objection_lem R o)) j 0 ≡ get_or (target_numbers (with_objection_lem R o)) k 0 → Old j ⊎ New j
+      distinct : (j k : ℕ) → j < k → get_or (objector_numbers (with_objection_lem R o)) j 0 ≡ get_or
+          (objector_numbers (with_objection_lem R o))
+          k 0 → get_or (target_numbers (with_objection_lem R o)) j 0 ≡ get_or (target_numbers (with_objection_lem R o)) k 0 → Old
+          j ⊎ New j
           → Old k ⊎ New k → ⊥
       distinct j k h a b (inl (p, q, r)) (inl (p', q', r')) = v.distinct j k h p' (sym q ∙ a ∙ q') (sym r ∙ b ∙ r')
       distinct j k h a b (inl (p, q, r)) (inr (p', q', r')) = new (j, p, sym q ∙ a ∙ q', sym r ∙ b ∙ r')

@@ -155,7 +155,8 @@ module _ (s : List ℕ) (fits : length s ≤ 65535) (ended : ¬ NotEnded s) wher
   further (Statement st) rest left e = omega (arith, ap length e, length-append (line_bytes (Statement st)) left)
   further (Objection o) rest left e = omega (arith, ap length e, length-append (line_bytes (Objection o)) left)
 
-  passed : (a b rest left : List ℕ) (l : Line) → b ≡ a ++ line_bytes l → s ≡ a ++ rest → rest ≡ line_bytes l ++ left → s ≡ b ++ left
+  passed : (a b rest left : List ℕ) (l : Line) → b ≡ a ++ line_bytes l → s ≡ a ++ rest → rest ≡ line_bytes l ++ left → s ≡ b ++
+      left
   passed a b rest left l w e f = e ∙ ap (λ u. a ++ u) f ∙ sym (append_assoc a (line_bytes l) left) ∙ ap (λ u. u ++ left) (sym w)
 
   -- one line, from a register that was read so far; `again` settles what is left behind it

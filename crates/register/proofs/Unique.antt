@@ -52,7 +52,8 @@ lines_formed R v =
     formed_append (map Statement R.statements) (map Objection R.objections)
     (statements_formed R.statements v.numbered) (objections_formed R.objections known)
   where
-    known : (k : ℕ) → k < length R.objections → IsNumber (get_or (objector_numbers R) k 0) × IsNumber (get_or (target_numbers R) k 0)
+    known : (k : ℕ) → k < length R.objections → IsNumber (get_or (objector_numbers R) k 0) × IsNumber
+        (get_or (target_numbers R) k 0)
     known k h = (
       issued_number R v (get_or (objector_numbers R) k 0) (v.known k h).0,
       issued_number R v (get_or (target_numbers R) k 0) (v.known k h).1,

@@ -44,7 +44,8 @@ pub record Valid (R : Register) : Type 0 where
   pub known : (k : ℕ) → k < length R.objections
       → Issued R (get_or (objector_numbers R) k 0) × Issued R (get_or (target_numbers R) k 0)
   pub distinct : (j k : ℕ) → j < k → k < length R.objections
-      → get_or (objector_numbers R) j 0 ≡ get_or (objector_numbers R) k 0 → get_or (target_numbers R) j 0 ≡ get_or (target_numbers R) k 0 → ⊥
+      → get_or (objector_numbers R) j 0 ≡ get_or (objector_numbers R) k 0 → get_or (target_numbers R) j 0 ≡ get_or
+      (target_numbers R) k 0 → ⊥
 
 -- "All statement lines come before all objection lines."
 abbrev pub lines : Register → List Line

@@ -38,7 +38,8 @@ Seeks numbers n links number rest node =
 
 -- one step down
 down : (links : List ℕ) (k rest node rest' node' : ℕ) → (node ≡ node' → ⊥) → Leads links k rest node rest' node'
-    → (0 < get_or links (slot rest node) 0) × ((j : ℕ) × (r : ℕ) × Leads links j (rest / 8) (get_or links (slot rest node) 0) r node')
+    → (0 < get_or links (slot rest node) 0) × ((j : ℕ) × (r : ℕ) × Leads links j (rest / 8) (get_or links (slot rest node) 0) r
+    node')
 unfolding Leads
 down links zero rest node rest' node' f (a, b) = absurd (f b)
 down links (suc k) rest node rest' node' f (a, b) = (a, (k, rest', b))

@@ -31,11 +31,13 @@ module _ (s : List ℕ) (at v e : ℕ) (read : NumberAt s at (Value v e)) where
       (f, cancel (number_bytes v) (drop e s) (c ∷ rest) (sym read.3 ∙ q ∙ ap (λ m. number_bytes m ++ (c ∷ rest)) f))
 
 -- a statement's bytes behind its number
-statement_bytes_lem : (n : ℕ) (m : Mark) (rest : List ℕ) → statement_tail n m ++ rest ≡ number_bytes n ++ (9 ∷ (mark_byte m ∷ 10 ∷ rest))
+statement_bytes_lem : (n : ℕ) (m : Mark) (rest : List ℕ) → statement_tail n m ++ rest ≡ number_bytes n ++
+    (9 ∷ (mark_byte m ∷ 10 ∷ rest))
 statement_bytes_lem n m rest = append_assoc (number_bytes n) (9 ∷ mark_byte m ∷ 10 ∷ []) rest
 
 pub statement_unnumbered : (s : List ℕ) (at : ℕ) → NumberAt s at NoNumber → GotStatement s at Spoiled
-statement_unnumbered s at none n m rest h q = none n (9 ∷ mark_byte m ∷ 10 ∷ rest) h (omega arith) (q ∙ statement_bytes_lem n m rest)
+statement_unnumbered s at none n m rest h q = none n (9 ∷ mark_byte m ∷ 10 ∷ rest) h (omega arith)
+    (q ∙ statement_bytes_lem n m rest)
 
 module _ (s : List ℕ) (at v e : ℕ) (read : NumberAt s at (Value v e)) where
   fields : (n : ℕ) (m : Mark) (rest : List ℕ) → IsNumber n → drop at s ≡ statement_tail n m ++ rest → (byte_at s e ≡ 9)
@@ -78,7 +80,8 @@ module _ (s : List ℕ) (at v e : ℕ) (read : NumberAt s at (Value v e)) where
       )
 
 -- an objection's bytes behind its first number
-objection_bytes_lem : (y x : ℕ) (rest : List ℕ) → objection_tail y x ++ rest ≡ number_bytes y ++ (9 ∷ (number_bytes x ++ (10 ∷ rest)))
+objection_bytes_lem : (y x : ℕ) (rest : List ℕ) → objection_tail y x ++ rest ≡ number_bytes y ++
+    (9 ∷ (number_bytes x ++ (10 ∷ rest)))
 objection_bytes_lem y x rest =
     append_assoc (number_bytes y) (9 ∷ (number_bytes x ++ (10 ∷ []))) rest
     ∙ ap (λ u. number_bytes y ++ (9 ∷ u)) (append_assoc (number_bytes x) (10 ∷ []) rest)
@@ -91,7 +94,8 @@ module _ (s : List ℕ) (at v tab : ℕ) (read : NumberAt s at (Value v tab)) wh
   target : (y x : ℕ) (rest : List ℕ) → IsNumber y → drop at s ≡ objection_tail y x ++ rest → (byte_at s tab ≡ 9)
       × (drop (tab + 1) s ≡ number_bytes x ++ (10 ∷ rest))
   target y x rest h q =
-      let (f, t) = behind s at v tab read y 9 (number_bytes x ++ (10 ∷ rest)) h (omega arith) (q ∙ objection_bytes_lem y x rest) in
+      let (f, t) = behind s at v tab read y 9 (number_bytes x ++ (10 ∷ rest)) h (omega arith) (q ∙ objection_bytes_lem y x rest)
+      in
       (first_byte s tab 9 (number_bytes x ++ (10 ∷ rest)) t, second_bytes s tab 9 (number_bytes x ++ (10 ∷ rest)) t)
 
   pub objection_untabbed : (byte_at s tab ≡ 9 → ⊥) → GotObjection s at Spoiled
@@ -121,7 +125,8 @@ module _ (s : List ℕ) (at v tab : ℕ) (read : NumberAt s at (Value v tab)) wh
 
 -- A line's first byte and the tab behind it.
 module _ (s : List ℕ) (at : ℕ) where
-  pub after_head : (k : ℕ) (u : List ℕ) → drop at s ≡ k ∷ 9 ∷ u → (byte_at s at ≡ k) × (byte_at s (at + 1) ≡ 9) × (drop (at + 2) s ≡ u)
+  pub after_head : (k : ℕ) (u : List ℕ) → drop at s ≡ k ∷ 9 ∷ u → (byte_at s at ≡ k) × (byte_at s (at + 1) ≡ 9) ×
+      (drop (at + 2) s ≡ u)
   after_head k u q =
       let t : drop (at + 1) s ≡ 9 ∷ u = second_bytes s at k (9 ∷ u) q in
       let i : at + 1 + 1 ≡ at + 2 = omega arith in

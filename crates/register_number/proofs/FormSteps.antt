@@ -63,7 +63,8 @@ module _ (s : List ℕ) (at : ℕ) where
     pub plain_found : (byte_at s end ≡ 46 → ⊥) → FormAt s at (Found (Plain value) end)
     plain_found other = ((digits.0, omega (arith, digits.1)), digits.2, digits.3, digits.4, only)
       where
-        only : (form : Form) (rest : List ℕ) → Proper form → Parted rest → drop at s ≡ form_bytes form ++ rest → form ≡ Plain value
+        only : (form : Form) (rest : List ℕ) → Proper form → Parted rest → drop at s ≡ form_bytes form ++ rest → form ≡ Plain
+            value
         only (Plain n) rest h k e = ap Plain (plain_there n rest h k e).0
         only (Year dated) rest h k e = absurd (other (first_byte s end 46 _ (year_there dated rest h e).1))
 

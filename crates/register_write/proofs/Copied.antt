@@ -12,7 +12,8 @@ use Rattle.register.specs.declared.Mark.TheVariants.{Read, Unread}
 use Rattle.register.specs.declared.StatementLine.{StatementLine}
 use Rattle.register.specs.declared.ObjectionLine.{ObjectionLine}
 use Rattle.register.specs.declared.Line.TheVariants.{Statement, Objection}
-use Rattle.register.specs.Register.{bytes, Register, numbers, objectors_of, targets_of, objector_numbers, target_numbers, marks_of}
+use Rattle.register.specs.Register.{bytes, Register, numbers, objectors_of, targets_of, objector_numbers, target_numbers}
+use Rattle.register.specs.Register.{marks_of}
 use Rattle.register.specs.Register.{written}
 use Rattle.register_read.specs.ReadState.{Made}
 use Rattle.register.proofs.Order.{number_there, numbers_counted, objectors_counted, register_in_order, marks_counted}

@@ -23,7 +23,8 @@ abbrev pub statement_text : (nums marks : List ℕ) → ℕ → List ℕ
 statement_text nums marks i = statement_bytes (get_or nums i 0) (get_or marks i 0)
 
 abbrev pub objection_text : (nums objectors targets : List ℕ) → ℕ → List ℕ
-objection_text nums objectors targets k = objection_bytes (get_or nums (get_or objectors k 0) 0) (get_or nums (get_or targets k 0) 0)
+objection_text nums objectors targets k = objection_bytes (get_or nums (get_or objectors k 0) 0)
+    (get_or nums (get_or targets k 0) 0)
 
 -- all statement lines; all objection lines; the text
 abbrev pub statements_text : (nums marks : List ℕ) → List ℕ

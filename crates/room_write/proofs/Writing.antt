@@ -59,7 +59,8 @@ put_one room at b h = record { ends = refl; is = stored }
 -- One byte of a word more, and the whole word.
 module _ (room : List ℕ) (at : ℕ) (word : List ℕ) (fits : RoomFor room at word) (i end : ℕ) (room' : List ℕ)
     (put : Put room at (take i word) end room') where
-  pub put_next : i < length word → end < length room' → Put room at (take (i + 1) word) (end + 1) (set room' end (get_or word i 0))
+  pub put_next : i < length word → end < length room' → Put room at (take (i + 1) word) (end + 1)
+      (set room' end (get_or word i 0))
   put_next h k =
       rw (add-one, take-suc word i 0 h) (put_more room at (take i word) (omega (arith, length-take-le i word (omega arith)))
       (get_or word i 0 ∷ []) put (put_one room' end (get_or word i 0) k))

@@ -5,7 +5,8 @@ use Rattle.lists.specs.Refuses.{Lists}
 use Rattle.call_argument.proofs.pairs_line.Goals as goal
 
 pub overflow_cast-result : goal.overflow_cast-result
-overflow_cast-result c = let l : Lists c.args.marks.now c.args.objectors.now c.args.targets.now = rw c.in_default.is at c.check-checked.ensures in
+overflow_cast-result c = let l : Lists c.args.marks.now c.args.objectors.now c.args.targets.now = rw c.in_default.is at
+    c.check-checked.ensures in
     omega (
       arith,
       line_few _ _ _ l _ _ c.place-x.ensures c.if-x-marks.false _ _ _ c.argument-n.ensures

@@ -5,7 +5,15 @@ use Rattle.call_argument.proofs.NumberGiven.{line_few, places_listed, line_given
 use Rattle.call_argument.proofs.write_argument.Goals as goal
 
 pub argument-n-requires : goal.argument-n-requires
-argument-n-requires c = (ready_settled _ _ _ _ _ _ _ c.requires.1, omega (arith, c.if-x-statements.false, counted _ _ _ _ _ c.requires.1.made))
+argument-n-requires c = (
+  ready_settled _ _ _ _ _ _ _ c.requires.1,
+  omega (
+    arith,
+    c.if-x-statements.false,
+    counted _ _ _ _ _
+        c.requires.1.made,
+  ),
+)
 
 pub renumber-requires : goal.renumber-requires
 renumber-requires c = (

@@ -26,6 +26,7 @@ pub returns-in-Whole : goal.returns-in-Whole
 returns-in-Whole c = let whole = rw c.in-Whole.is at c.read-reading.ensures in
     let accepts = whole.1 in
     on_promised (text_apart c.args.text.now) (λ R. Short (length c.args.room.now < length (catalogued R)))
-    (λ R. Written (catalogued R) c.args.room.now) whole.0 accepts c.args.room.now c.write_catalogue.result c.write_catalogue.new.room
+    (λ R. Written (catalogued R) c.args.room.now) whole.0 accepts c.args.room.now c.write_catalogue.result
+    c.write_catalogue.new.room
     (c.write_catalogue.ensures whole.0 (made _ accepts.valid _ _ _ _ _ _ whole.2)
     (omega (arith, never_longer whole.0 accepts.valid, ap length accepts.is_written)))

@@ -16,8 +16,14 @@ pub put_register-requires-clause-copyable : goal.put_register-requires-clause-co
 put_register-requires-clause-copyable c = made_copyable c.requires.0 _ _ _ _ c.requires.1
 
 pub overflow_cast-result : goal.overflow_cast-result
-overflow_cast-result c = omega (arith, made_size c.requires.0 _ _ _ _ c.requires.1 c.register_size-size.result c.register_size-size.ensures, c.requires.2)
+overflow_cast-result c = omega (
+  arith,
+  made_size c.requires.0 _ _ _ _ c.requires.1 c.register_size-size.result
+      c.register_size-size.ensures,
+  c.requires.2,
+)
 
 pub returns : goal.returns
-returns c = λ R made short. old_form_written R _ _ _ _ made c.register_size-size.result c.register_size-size.ensures c.args.room.now
+returns c = λ R made short. old_form_written R _ _ _ _ made c.register_size-size.result c.register_size-size.ensures
+    c.args.room.now
     c.if-room-size.false _ c.put_register.ensures

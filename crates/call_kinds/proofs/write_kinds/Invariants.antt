@@ -6,7 +6,8 @@ use Rattle.promises.specs.KindCalls.{Objections}
 use Rattle.call_kinds.proofs.write_kinds.Given as goal
 
 abbrev pub invariant-loop-k : goal.invariant-loop-k
-invariant-loop-k l = (l.k ≤ length l.objectors) × Objections l.marks l.objectors l.targets account_number l.k l.initial.kinds l.kinds
+invariant-loop-k l = (l.k ≤ length l.objectors) × Objections l.marks l.objectors l.targets account_number l.k l.initial.kinds
+    l.kinds
     × Objections l.marks l.objectors l.targets account_length l.k l.initial.lengths l.lengths
 
 abbrev pub decreases-loop-k : goal.decreases-loop-k

@@ -5,5 +5,6 @@ use Rattle.call_labels_lists.proofs.ListsSolved.{lengths_begin}
 use Rattle.call_labels_lists.proofs.pairs_lengths.Goals as goal
 
 pub returns : goal.returns
-returns c = let l : Lists c.args.marks.now c.args.objectors.now c.args.targets.now = rw c.in_default.is at c.check-checked.ensures in
+returns c = let l : Lists c.args.marks.now c.args.objectors.now c.args.targets.now = rw c.in_default.is at c.check-checked.ensures
+    in
     (tt, l, (refl, lengths_begin _ _ _ _ _ _ _ c.solve.ensures c.if-lengths-n.false c.solve.auto.lengths))

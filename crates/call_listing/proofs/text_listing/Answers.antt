@@ -18,8 +18,10 @@ write_listing-requires c = let whole = rw c.in-Whole.is at c.solve_text-reading.
 
 pub returns-in-Whole : goal.returns-in-Whole
 returns-in-Whole c = let whole = rw c.in-Whole.is at c.solve_text-reading.ensures in
-    on_promised (text_apart c.args.text.now) (λ R. Short (ListingShort c.args.room.now R)) (λ R. ListingIn R c.args.room.now) whole.0
+    on_promised (text_apart c.args.text.now) (λ R. Short (ListingShort c.args.room.now R)) (λ R. ListingIn R c.args.room.now)
+    whole.0
     whole.1 c.args.room.now c.write_listing.result c.write_listing.new.room
     (c.write_listing.ensures whole.0
-    (rooms_ready _ _ _ _ _ _ _ _ _ whole (omega (arith, c.solve_text-reading.auto.labels)) (omega (arith, c.solve_text-reading.auto.lengths)))
+    (rooms_ready _ _ _ _ _ _ _ _ _ whole (omega (arith, c.solve_text-reading.auto.labels))
+    (omega (arith, c.solve_text-reading.auto.lengths)))
     (rooms_bounded _ _ _ _ _ _ _ _ _ whole))

@@ -7,21 +7,25 @@ use Rattle.call_mend.proofs.MendGiven.{both_written}
 use Rattle.call_mend.proofs.write_mended.Goals as goal
 
 pub register_size-size-requires : goal.register_size-size-requires
-register_size-size-requires c = copyable c.requires.0 c.args.numbers.now c.args.marks.now c.args.objectors.now c.args.targets.now c.args.fates.now
+register_size-size-requires c = copyable c.requires.0 c.args.numbers.now c.args.marks.now c.args.objectors.now c.args.targets.now
+    c.args.fates.now
     c.requires.1 c.args.room.now c.args.report.now c.args.report_written.now
 
 pub returns-then-room-size : goal.returns-then-room-size
-returns-then-room-size c = λ ls m. room_short ls c.args.numbers.now c.args.marks.now c.args.objectors.now c.args.targets.now c.args.fates.now m
+returns-then-room-size c = λ ls m. room_short ls c.args.numbers.now c.args.marks.now c.args.objectors.now c.args.targets.now
+    c.args.fates.now m
     c.args.room.now c.args.report.now c.args.report_written.now c.register_size-size.result c.register_size-size.ensures
     c.if-room-size.true
 
 pub returns-then-report-report_size : goal.returns-then-report-report_size
-returns-then-report-report_size c = λ ls m. report_room_short ls c.args.numbers.now c.args.marks.now c.args.objectors.now c.args.targets.now
+returns-then-report-report_size c = λ ls m. report_room_short ls c.args.numbers.now c.args.marks.now c.args.objectors.now
+    c.args.targets.now
     c.args.fates.now m c.args.room.now c.args.report.now c.args.report_written.now c.register_size-size.result
     c.register_size-size.ensures c.report_size-report_size.result c.report_size-report_size.ensures c.if-report-report_size.true
 
 pub put_register-requires-clause-copyable : goal.put_register-requires-clause-copyable
-put_register-requires-clause-copyable c = copyable c.requires.0 c.args.numbers.now c.args.marks.now c.args.objectors.now c.args.targets.now c.args.fates.now
+put_register-requires-clause-copyable c = copyable c.requires.0 c.args.numbers.now c.args.marks.now c.args.objectors.now
+    c.args.targets.now c.args.fates.now
     c.requires.1 c.args.room.now c.args.report.now c.args.report_written.now
 
 pub overflow_cast-report_written : goal.overflow_cast-report_written
@@ -43,5 +47,6 @@ overflow_cast-result c = omega (
 pub returns : goal.returns
 returns c = λ ls m. both_written ls c.args.numbers.now c.args.marks.now c.args.objectors.now c.args.targets.now c.args.fates.now
     m c.args.room.now c.args.report.now c.args.report_written.now c.register_size-size.result c.register_size-size.ensures
-    c.report_size-report_size.result c.report_size-report_size.ensures c.if-room-size.false c.if-report-report_size.false _ _ c.put_register.ensures
+    c.report_size-report_size.result c.report_size-report_size.ensures c.if-room-size.false c.if-report-report_size.false _ _
+    c.put_register.ensures
     c.put_report.ensures

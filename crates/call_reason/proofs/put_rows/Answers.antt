@@ -21,7 +21,8 @@ loop-next-init c = (
 )
 
 pub put_entry-end-requires-clause-room_for : goal.put_entry-end-requires-clause-room_for
-put_entry-end-requires-clause-room_for c = subst (RoomFor c.loop-next.room c.loop-next.end) (sym (chosen_row c.args.numbers.now c.args.objectors.now c.args.targets.now
+put_entry-end-requires-clause-room_for c = subst (RoomFor c.loop-next.room c.loop-next.end)
+    (sym (chosen_row c.args.numbers.now c.args.objectors.now c.args.targets.now
     c.args.labels.now c.args.lengths.now c.args.inside.now c.loop-next.next c.if-inside-k-ne0.true))
     (row_fits c.args.room.now c.args.at (chosen_at c.args.numbers.now c.args.objectors.now c.args.targets.now
     c.args.labels.now c.args.lengths.now

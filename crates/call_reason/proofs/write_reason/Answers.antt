@@ -7,10 +7,12 @@ use Rattle.call_reason.proofs.AskedReason.{reason_written}
 use Rattle.call_reason.proofs.write_reason.Goals as goal
 
 pub choose-requires-clause-lists_labelled : goal.choose-requires-clause-lists_labelled
-choose-requires-clause-lists_labelled c = let settled = ready_settled _ _ _ _ _ _ _ c.requires.1 in (settled, omega (arith, c.if-x-statements.false, counted _ _ _ _ _ c.requires.1.made))
+choose-requires-clause-lists_labelled c = let settled = ready_settled _ _ _ _ _ _ _ c.requires.1 in
+    (settled, omega (arith, c.if-x-statements.false, counted _ _ _ _ _ c.requires.1.made))
 
 pub choose-requires-clause-objectors_in_bounds : goal.choose-requires-clause-objectors_in_bounds
-choose-requires-clause-objectors_in_bounds c = let settled = ready_settled _ _ _ _ _ _ _ c.requires.1 in (settled.handed.few_pairs, λ k. all_zero 4096 k)
+choose-requires-clause-objectors_in_bounds c = let settled = ready_settled _ _ _ _ _ _ _ c.requires.1 in
+    (settled.handed.few_pairs, λ k. all_zero 4096 k)
 
 pub write_rows-requires : goal.write_rows-requires
 write_rows-requires c = let few = (ready_settled _ _ _ _ _ _ _ c.requires.1).handed.few_pairs in (

@@ -4,7 +4,8 @@ use Rattle.call_reason.proofs.ReasonRows.{rows_sum, rows_few, rows_put}
 use Rattle.call_reason.proofs.write_rows.Goals as goal
 
 pub overflow_add-size : goal.overflow_add-size
-overflow_add-size c = let sum = rows_sum c.args.numbers.now c.args.objectors.now c.args.targets.now c.args.labels.now c.args.lengths.now
+overflow_add-size c = let sum = rows_sum c.args.numbers.now c.args.objectors.now c.args.targets.now c.args.labels.now
+    c.args.lengths.now
     c.args.inside.now c.args.x _ _
     c.statement_size.ensures c.rows_size.ensures in
     omega (
@@ -15,7 +16,8 @@ overflow_add-size c = let sum = rows_sum c.args.numbers.now c.args.objectors.now
     )
 
 pub overflow_cast-result : goal.overflow_cast-result
-overflow_cast-result c = let sum = rows_sum c.args.numbers.now c.args.objectors.now c.args.targets.now c.args.labels.now c.args.lengths.now
+overflow_cast-result c = let sum = rows_sum c.args.numbers.now c.args.objectors.now c.args.targets.now c.args.labels.now
+    c.args.lengths.now
     c.args.inside.now c.args.x _ _
     c.statement_size.ensures c.rows_size.ensures in
     omega (

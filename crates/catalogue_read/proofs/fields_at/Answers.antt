@@ -13,7 +13,8 @@ returns-in_default c = no_number _ _ _ _ _ _ _ _ _ _ c.loop-end.invariant
     (rw c.in_default.is at c.number_at.ensures)
 
 pub loop-end-preserved : goal.loop-end-preserved
-loop-end-preserved c = let again = turn c.args.text.now c.args.at c.args.n c.args.m c.args.objectors.now c.args.targets.now c.loop-end.objectors
+loop-end-preserved c = let again = turn c.args.text.now c.args.at c.args.n c.args.m c.args.objectors.now c.args.targets.now
+    c.loop-end.objectors
     c.loop-end.targets
     c.loop-end.end c.loop-end.count c.loop-end.invariant _ _
     (sym c.byte_at.ensures ∙ c.loop-end-test.true)

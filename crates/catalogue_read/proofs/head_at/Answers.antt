@@ -11,4 +11,5 @@ returns-then-byte_at-ne9-2 c = head_unparted c.args.text.now c.args.at _ _
 pub returns-in_default-byte_at : goal.returns-in_default-byte_at
 returns-in_default-byte_at c = head_unmarked _ _ _ _
     (rw c.in-Value.is at c.number_at.ensures)
-    (λ e. c.in_default-byte_at.in_default-byte_at-own.rest.0.1 (c.byte_at-4.ensures ∙ e)) (λ e. c.in_default-byte_at.in_default-byte_at-own.rest.1 (c.byte_at-4.ensures ∙ e))
+    (λ e. c.in_default-byte_at.in_default-byte_at-own.rest.0.1 (c.byte_at-4.ensures ∙ e))
+    (λ e. c.in_default-byte_at.in_default-byte_at-own.rest.1 (c.byte_at-4.ensures ∙ e))

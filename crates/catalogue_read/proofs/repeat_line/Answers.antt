@@ -11,7 +11,8 @@ returns-then-last-y c = repeated _ _ _ _ _ _ _ _ c.loop-k.invariant
 
 pub loop-k-preserved : goal.loop-k-preserved
 loop-k-preserved c = one_named _ _ _ _ _ _ _ _ c.loop-k.invariant c.loop-k-test.true
-    c.place-y.ensures refl c.requires.m_in_bounds.1 c.if-last-y.false (omega (arith, c.requires.by_index c.loop-k.k c.loop-k-test.true, c.place-y.ensures, c.loop-k.invariant.as_long))
+    c.place-y.ensures refl c.requires.m_in_bounds.1 c.if-last-y.false (omega
+    (arith, c.requires.by_index c.loop-k.k c.loop-k-test.true, c.place-y.ensures, c.loop-k.invariant.as_long))
 
 pub returns : goal.returns
 returns c = inl (refl, λ j h. c.loop-k.invariant.none j (omega arith))

@@ -7,13 +7,26 @@ use Rattle.catalogue_read.proofs.Settled.{in_line, unknown_card, all_listed, rep
 use Rattle.catalogue_read.proofs.settle.Goals as goal
 
 pub place_objectors-unknown-requires : goal.place_objectors-unknown-requires
-place_objectors-unknown-requires c = (c.requires.indexed.0, c.requires.indexed.1, in_line c.requires.filed.0 _ _ _ _ _ c.requires.filed.1 c.requires.indexed.2)
+place_objectors-unknown-requires c = (
+  c.requires.indexed.0,
+  c.requires.indexed.1,
+  in_line c.requires.filed.0 _ _ _ _ _
+      c.requires.filed.1 c.requires.indexed.2,
+)
 
 pub returns-then-unknown-ne0 : goal.returns-then-unknown-ne0
-returns-then-unknown-ne0 c = λ cs filed. unknown_card cs _ _ _ _ _ filed c.place_objectors-unknown.new.objectors _ c.place_objectors-unknown.ensures c.if-unknown-ne0.true
+returns-then-unknown-ne0 c = λ cs filed. unknown_card cs _ _ _ _ _ filed c.place_objectors-unknown.new.objectors _
+    c.place_objectors-unknown.ensures c.if-unknown-ne0.true
 
 pub repeat_line-repeated-requires-clause-m_in_bounds : goal.repeat_line-repeated-requires-clause-m_in_bounds
-repeat_line-repeated-requires-clause-m_in_bounds c = (omega (arith, c.place_objectors-unknown.auto.objectors, c.requires.indexed.1), in_line c.requires.filed.0 _ _ _ _ _ c.requires.filed.1 c.requires.indexed.2)
+repeat_line-repeated-requires-clause-m_in_bounds c = (
+  omega (
+    arith,
+    c.place_objectors-unknown.auto.objectors,
+    c.requires.indexed.1,
+  ),
+  in_line c.requires.filed.0 _ _ _ _ _ c.requires.filed.1 c.requires.indexed.2,
+)
 
 pub repeat_line-repeated-requires-clause-by_index_2 : goal.repeat_line-repeated-requires-clause-by_index_2
 repeat_line-repeated-requires-clause-by_index_2 c = all_zero 1024
@@ -28,13 +41,15 @@ returns-then-repeated-ne0 c = λ cs filed. (
 )
 
 pub register_size-requires : goal.register_size-requires
-register_size-requires c = made_copyable _ _ _ _ _ (passed c.requires.filed.0 _ _ _ _ _ c.requires.filed.1 c.place_objectors-unknown.new.objectors _ c.place_objectors-unknown.ensures c.if-unknown-ne0.false _
+register_size-requires c = made_copyable _ _ _ _ _ (passed c.requires.filed.0 _ _ _ _ _ c.requires.filed.1
+    c.place_objectors-unknown.new.objectors _ c.place_objectors-unknown.ensures c.if-unknown-ne0.false _
     c.repeat_line-repeated.ensures c.if-repeated-ne0.false
     (omega (arith, c.place_objectors-unknown.auto.objectors, c.requires.indexed.1))).made
 
 pub returns-then-register_size-gt65535 : goal.returns-then-register_size-gt65535
 returns-then-register_size-gt65535 c = λ cs filed.
-    let p = passed cs _ _ _ _ _ filed c.place_objectors-unknown.new.objectors _ c.place_objectors-unknown.ensures c.if-unknown-ne0.false _
+    let p = passed cs _ _ _ _ _ filed c.place_objectors-unknown.new.objectors _ c.place_objectors-unknown.ensures
+    c.if-unknown-ne0.false _
     c.repeat_line-repeated.ensures c.if-repeated-ne0.false
     (omega (arith, c.place_objectors-unknown.auto.objectors, c.requires.indexed.1)) in (
       p.listed,
@@ -44,7 +59,8 @@ returns-then-register_size-gt65535 c = λ cs filed.
 
 pub returns : goal.returns
 returns c = λ cs filed.
-    let p = passed cs _ _ _ _ _ filed c.place_objectors-unknown.new.objectors _ c.place_objectors-unknown.ensures c.if-unknown-ne0.false _
+    let p = passed cs _ _ _ _ _ filed c.place_objectors-unknown.new.objectors _ c.place_objectors-unknown.ensures
+    c.if-unknown-ne0.false _
     c.repeat_line-repeated.ensures c.if-repeated-ne0.false
     (omega (arith, c.place_objectors-unknown.auto.objectors, c.requires.indexed.1)) in (
       p.listed,

@@ -13,7 +13,9 @@ loop-x-init c = let row = card_text c.args.numbers.now c.args.marks.now c.args.o
     (search rules, search rules, rw (no_rows row) (put_none c.args.room.now 0))
 
 pub put_card-end-requires-clause-room_for : goal.put_card-end-requires-clause-room_for
-put_card-end-requires-clause-room_for c = let row = card_text c.args.numbers.now c.args.marks.now c.args.objectors.now c.args.targets.now in row_fits c.args.room.now 0 row c.loop-x.x (length c.args.numbers.now) c.loop-x-test.true c.requires.room_for
+put_card-end-requires-clause-room_for c = let row = card_text c.args.numbers.now c.args.marks.now c.args.objectors.now
+    c.args.targets.now in row_fits c.args.room.now 0 row c.loop-x.x (length c.args.numbers.now) c.loop-x-test.true
+    c.requires.room_for
     c.loop-x.invariant.2 c.loop-x.invariant.1
 
 pub loop-x-preserved : goal.loop-x-preserved
@@ -21,6 +23,7 @@ loop-x-preserved c = let row = card_text c.args.numbers.now c.args.marks.now c.a
   search rules,
   c.put_card-end.auto.room ∙ c.loop-x.invariant.1,
   row_put c.args.room.now 0 row c.loop-x.x
-      (rows_fit c.args.room.now 0 row c.loop-x.x (length c.args.numbers.now) c.loop-x-test.true c.requires.room_for) c.loop-x.invariant.2 refl
+      (rows_fit c.args.room.now 0 row c.loop-x.x (length c.args.numbers.now) c.loop-x-test.true c.requires.room_for)
+      c.loop-x.invariant.2 refl
       c.put_card-end.ensures,
 )

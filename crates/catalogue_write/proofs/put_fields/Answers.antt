@@ -16,8 +16,14 @@ loop-c-init c = let begun = walk_begins c.requires.writable.0 c.args.x c.require
 
 pub put_field-end-requires-clause-room_for : goal.put_field-end-requires-clause-room_for
 put_field-end-requires-clause-room_for c = let e = length c.args.objectors.now - c.loop-c.c in
-    let low : e < length c.args.objectors.now = omega (arith, c.loop-c.invariant.0.low, c.requires.writable.0.copyable.paired, c.loop-c-test.true) in
-    let row = field_against c.args.numbers.now c.args.objectors.now c.args.targets.now c.args.x in subst (RoomFor c.loop-c.room c.loop-c.end)
+    let low : e < length c.args.objectors.now = omega (
+      arith,
+      c.loop-c.invariant.0.low,
+      c.requires.writable.0.copyable.paired,
+      c.loop-c-test.true,
+    ) in
+    let row = field_against c.args.numbers.now c.args.objectors.now c.args.targets.now c.args.x in subst
+    (RoomFor c.loop-c.room c.loop-c.end)
     (sym (walk_field c.requires.writable.0 c.args.x c.loop-c.invariant.0 c.loop-c-test.true))
     (row_fits c.args.room.now c.args.at row e (length c.args.objectors.now) low c.requires.room_for c.loop-c.invariant.2
     c.loop-c.invariant.1)
@@ -27,6 +33,8 @@ loop-c-preserved c = let e = length c.args.objectors.now - c.loop-c.c in
     let low : e < length c.args.objectors.now = omega (arith, c.loop-c.invariant.0.low, c.requires.writable.0.copyable.paired) in
     let row = field_against c.args.numbers.now c.args.objectors.now c.args.targets.now c.args.x in
     let fits = rows_fit c.args.room.now c.args.at row e (length c.args.objectors.now) low c.requires.room_for in
-    let onward = walk_on c.requires.writable.0 c.args.x c.loop-c.invariant.0 c.loop-c-test.true c.args.room.now c.args.at c.wide-c-in-loop-c.ensures
-    (row_put c.args.room.now c.args.at row e fits c.loop-c.invariant.2 (walk_field c.requires.writable.0 c.args.x c.loop-c.invariant.0 c.loop-c-test.true)
+    let onward = walk_on c.requires.writable.0 c.args.x c.loop-c.invariant.0 c.loop-c-test.true c.args.room.now c.args.at
+    c.wide-c-in-loop-c.ensures
+    (row_put c.args.room.now c.args.at row e fits c.loop-c.invariant.2 (walk_field c.requires.writable.0 c.args.x
+    c.loop-c.invariant.0 c.loop-c-test.true)
     c.put_field-end.ensures) in (onward.0, c.put_field-end.auto.room ∙ c.loop-c.invariant.1, onward.1)

@@ -10,7 +10,8 @@ use Rattle.catalogue_write.proofs.put_fields.Given as goal
 
 abbrev pub invariant-loop-c : goal.invariant-loop-c
 invariant-loop-c l = Reached l.targets l.x l.c × (length l.room ≡ length l.initial.room)
-    × Put l.initial.room l.at (rows_to (length l.objectors - l.c) (field_against l.numbers l.objectors l.targets l.x)) l.end l.room
+    × Put l.initial.room l.at (rows_to (length l.objectors - l.c) (field_against l.numbers l.objectors l.targets l.x)) l.end
+    l.room
 
 abbrev pub decreases-loop-c : goal.decreases-loop-c
 decreases-loop-c l = l.c

@@ -10,7 +10,8 @@ use Rattle.catalogue_write.proofs.CatalogueTold.{lists_catalogued, made_marked}
 use Rattle.catalogue_write.proofs.write.Goals as goal
 
 pub chain_back-requires-clause-by_index : goal.chain_back-requires-clause-by_index
-chain_back-requires-clause-by_index c = let ok = made_copyable _ _ _ _ _ c.requires.1 in λ e h. omega (arith, ok.target e (omega (arith, ok.paired)), ok.few_numbers)
+chain_back-requires-clause-by_index c = let ok = made_copyable _ _ _ _ _ c.requires.1 in λ e h. omega
+    (arith, ok.target e (omega (arith, ok.paired)), ok.few_numbers)
 
 pub chain_back-requires-clause-by_index_2 : goal.chain_back-requires-clause-by_index_2
 chain_back-requires-clause-by_index_2 c = let ok = made_copyable _ _ _ _ _ c.requires.1 in λ x. all_zero 1024 x
@@ -26,7 +27,8 @@ put_cards-requires-clause-writable c = let ok = made_copyable _ _ _ _ _ c.requir
 )
 
 pub put_cards-requires-clause-room_for : goal.put_cards-requires-clause-room_for
-put_cards-requires-clause-room_for c = let ok = made_copyable _ _ _ _ _ c.requires.1 in omega (arith, c.requires.2, ap length (lists_catalogued _ _ _ _ _ c.requires.1))
+put_cards-requires-clause-room_for c = let ok = made_copyable _ _ _ _ _ c.requires.1 in omega
+    (arith, c.requires.2, ap length (lists_catalogued _ _ _ _ _ c.requires.1))
 
 pub returns : goal.returns
 returns c R made = let whole = catalogued_lists c.args.numbers.now c.args.marks.now c.args.objectors.now c.args.targets.now in

@@ -7,7 +7,8 @@ use Rattle.label_queue.proofs.Runs.{Link}
 use Rattle.label_step.proofs.fell_targets.Given as goal
 
 abbrev pub invariant-loop-c : goal.invariant-loop-c
-invariant-loop-c l = (Run l.marks l.objectors l.targets (length l.marks) (l.h + 1) l.t l.y l.c l.k l.labels l.lengths l.left l.queue
+invariant-loop-c l = (Run l.marks l.objectors l.targets (length l.marks) (l.h + 1) l.t l.y l.c l.k l.labels l.lengths l.left
+    l.queue
     × Link l.marks l.objectors l.h l.t l.y 1 l.c l.k l.labels l.lengths l.queue) × (length l.labels ≡ length l.initial.labels)
     × (length l.lengths ≡ length l.initial.lengths) × (length l.queue ≡ length l.initial.queue)
 

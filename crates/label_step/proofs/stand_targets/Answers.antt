@@ -99,7 +99,8 @@ pub bounds-queue-t : goal.bounds-queue-t
 bounds-queue-t c = queue_room c.requires.handed c.requires.chains c.loop-c.invariant.0.0 c.loop-c.invariant.0.1 c.loop-c-test.true
     (sym c.place-x.ensures) (omega (
       arith,
-      target_place _ _ _ c.requires.handed _ _ (omega (arith, c.loop-c-test.true, c.loop-c.invariant.0.1.walk.low)) c.place-x.ensures,
+      target_place _ _ _ c.requires.handed _ _ (omega (arith, c.loop-c-test.true, c.loop-c.invariant.0.1.walk.low))
+          c.place-x.ensures,
       c.loop-c.invariant.1,
       c.requires.rooms.labels_room,
     )) (omega (arith, c.loop-c.invariant.3, c.requires.spaces.queue_room)) c.if-labels-x-ne0.false
@@ -123,18 +124,21 @@ loop-c-preserved c = (
       ))
       (omega (
         arith,
-        target_place _ _ _ c.requires.handed _ _ (omega (arith, c.loop-c-test.true, c.loop-c.invariant.0.1.walk.low)) c.place-x.ensures,
+        target_place _ _ _ c.requires.handed _ _ (omega (arith, c.loop-c-test.true, c.loop-c.invariant.0.1.walk.low))
+            c.place-x.ensures,
         c.loop-c.invariant.1,
         c.requires.rooms.labels_room,
       )) (omega (
         arith,
-        target_place _ _ _ c.requires.handed _ _ (omega (arith, c.loop-c-test.true, c.loop-c.invariant.0.1.walk.low)) c.place-x.ensures,
+        target_place _ _ _ c.requires.handed _ _ (omega (arith, c.loop-c-test.true, c.loop-c.invariant.0.1.walk.low))
+            c.place-x.ensures,
         c.loop-c.invariant.2,
         c.requires.rooms.lengths_room,
       )) (queue_room c.requires.handed c.requires.chains c.loop-c.invariant.0.0 c.loop-c.invariant.0.1 c.loop-c-test.true
       (sym c.place-x.ensures) (omega (
         arith,
-        target_place _ _ _ c.requires.handed _ _ (omega (arith, c.loop-c-test.true, c.loop-c.invariant.0.1.walk.low)) c.place-x.ensures,
+        target_place _ _ _ c.requires.handed _ _ (omega (arith, c.loop-c-test.true, c.loop-c.invariant.0.1.walk.low))
+            c.place-x.ensures,
         c.loop-c.invariant.1,
         c.requires.rooms.labels_room,
       )) (omega (arith, c.loop-c.invariant.3, c.requires.spaces.queue_room)) c.if-labels-x-ne0.false) c.if-n-ne0.false

@@ -17,5 +17,6 @@ put_objection-requires c = omega (
 pub returns : goal.returns
 returns c = subst (λ u. Put c.args.room.now c.args.at u c.put_objection.result
     c.put_objection.new.room)
-    (row_told _ _ _ _ _ _ c.requires.listable.0 _ _ _ _ c.requires.listable.1 c.place-y.ensures c.place-x.ensures c.kind_at-kind.ensures)
+    (row_told _ _ _ _ _ _ c.requires.listable.0 _ _ _ _ c.requires.listable.1 c.place-y.ensures c.place-x.ensures
+    c.kind_at-kind.ensures)
     c.put_objection.ensures

@@ -8,7 +8,13 @@ pub put_word-first_tab-requires : goal.put_word-first_tab-requires
 put_word-first_tab-requires c = omega (arith, numbers_length c.args.word.now c.args.first c.args.second, c.requires)
 
 pub put_word-first_at-requires : goal.put_word-first_at-requires
-put_word-first_at-requires c = omega (arith, numbers_length c.args.word.now c.args.first c.args.second, c.requires, c.put_word-first_tab.ensures.ends, c.put_word-first_tab.auto.room)
+put_word-first_at-requires c = omega (
+  arith,
+  numbers_length c.args.word.now c.args.first c.args.second,
+  c.requires,
+  c.put_word-first_tab.ensures.ends,
+  c.put_word-first_tab.auto.room,
+)
 
 pub put_decimal-second_tab-requires : goal.put_decimal-second_tab-requires
 put_decimal-second_tab-requires c = omega (
@@ -67,6 +73,7 @@ put_word-requires c = omega (
 )
 
 pub returns : goal.returns
-returns c = numbers_put c.args.room.now c.args.at c.args.word.now c.args.first c.args.second c.requires c.put_word-first_tab.ensures
+returns c = numbers_put c.args.room.now c.args.at c.args.word.now c.args.first c.args.second c.requires
+    c.put_word-first_tab.ensures
     c.put_word-first_at.ensures c.put_decimal-second_tab.ensures c.put_word-second_at.ensures c.put_decimal-end.ensures
     c.put_word.ensures

@@ -20,7 +20,8 @@ loop-k-init c = (
 )
 
 pub put_entry-end-requires-clause-room_for : goal.put_entry-end-requires-clause-room_for
-put_entry-end-requires-clause-room_for c = row_fits c.args.room.now c.args.at (objection_row_at c.args.numbers.now c.args.objectors.now c.args.targets.now
+put_entry-end-requires-clause-room_for c = row_fits c.args.room.now c.args.at
+    (objection_row_at c.args.numbers.now c.args.objectors.now c.args.targets.now
     c.args.labels.now c.args.lengths.now)
     c.loop-k.k (length c.args.objectors.now) c.loop-k-test.true
     (subst (RoomFor c.args.room.now c.args.at) (sym (objections_all c.args.numbers.now c.args.labels.now

@@ -25,7 +25,8 @@ put_statement-end-requires c = omega (
   arith,
   c.loop-x.invariant.2.ends,
   rows_longer (statement_row_at c.args.numbers.now c.args.labels.now c.args.lengths.now) c.loop-x.x,
-  rows_fewer (statement_row_at c.args.numbers.now c.args.labels.now c.args.lengths.now) (c.loop-x.x + 1) (length c.args.numbers.now) (omega arith),
+  rows_fewer (statement_row_at c.args.numbers.now c.args.labels.now c.args.lengths.now) (c.loop-x.x + 1)
+      (length c.args.numbers.now) (omega arith),
   ap length (statements_all c.args.numbers.now c.args.labels.now c.args.lengths.now (length c.args.numbers.now) refl),
 )
 
@@ -36,7 +37,8 @@ loop-x-preserved c = (
   row_put c.args.room.now c.args.at
       (statement_row_at c.args.numbers.now c.args.labels.now c.args.lengths.now) c.loop-x.x (omega (
         arith,
-        rows_fewer (statement_row_at c.args.numbers.now c.args.labels.now c.args.lengths.now) (c.loop-x.x + 1) (length c.args.numbers.now) (omega arith),
+        rows_fewer (statement_row_at c.args.numbers.now c.args.labels.now c.args.lengths.now) (c.loop-x.x + 1)
+            (length c.args.numbers.now) (omega arith),
         ap length (statements_all c.args.numbers.now c.args.labels.now c.args.lengths.now (length c.args.numbers.now) refl),
       )) c.loop-x.invariant.2 refl
       c.put_statement-end.ensures,

@@ -9,11 +9,13 @@ use Rattle.listing_write.proofs.ListingTold.{ready_listing}
 use Rattle.listing_write.proofs.size.Goals as goal
 
 pub objections_size-objections-requires : goal.objections_size-objections-requires
-objections_size-objections-requires c = ready_lists c.requires.0 c.args.numbers.now c.args.marks.now c.args.objectors.now c.args.targets.now c.args.labels.now
+objections_size-objections-requires c = ready_lists c.requires.0 c.args.numbers.now c.args.marks.now c.args.objectors.now
+    c.args.targets.now c.args.labels.now
     c.args.lengths.now c.requires.1
 
 pub overflow_add-result : goal.overflow_add-result
-overflow_add-result c = let g = ready_lists c.requires.0 c.args.numbers.now c.args.marks.now c.args.objectors.now c.args.targets.now c.args.labels.now c.args.lengths.now c.requires.1 in
+overflow_add-result c = let g = ready_lists c.requires.0 c.args.numbers.now c.args.marks.now c.args.objectors.now
+    c.args.targets.now c.args.labels.now c.args.lengths.now c.requires.1 in
     omega (
       arith,
       g.handed.few_marks,
@@ -25,7 +27,8 @@ overflow_add-result c = let g = ready_lists c.requires.0 c.args.numbers.now c.ar
     )
 
 pub overflow_add-result-2 : goal.overflow_add-result-2
-overflow_add-result-2 c = let g = ready_lists c.requires.0 c.args.numbers.now c.args.marks.now c.args.objectors.now c.args.targets.now c.args.labels.now c.args.lengths.now c.requires.1 in
+overflow_add-result-2 c = let g = ready_lists c.requires.0 c.args.numbers.now c.args.marks.now c.args.objectors.now
+    c.args.targets.now c.args.labels.now c.args.lengths.now c.requires.1 in
     omega (
       arith,
       g.handed.few_marks,

@@ -10,7 +10,11 @@ use Rattle.std.proofs.Common.{rules}
 use Rattle.listing_write.proofs.statements_size.Goals as goal
 
 pub loop-x-init : goal.loop-x-init
-loop-x-init c = (search rules, sym (ap length (no_rows (statement_row_at c.args.numbers.now c.args.labels.now c.args.lengths.now))))
+loop-x-init c = (
+  search rules,
+  sym (ap length (no_rows (statement_row_at c.args.numbers.now c.args.labels.now
+      c.args.lengths.now))),
+)
 
 pub overflow_add-total : goal.overflow_add-total
 overflow_add-total c = omega (

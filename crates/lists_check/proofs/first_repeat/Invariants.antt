@@ -10,8 +10,10 @@ use Rattle.lists.specs.Refuses.{Repeat}
 use Rattle.lists_check.proofs.first_repeat.Given as goal
 
 abbrev pub invariant-loop-k : goal.invariant-loop-k
-invariant-loop-k l = (l.k ≤ length l.objectors) × (length l.copies ≡ length l.initial.copies) × (length l.links ≡ length l.initial.links)
-    × Entered (length l.marks) l.k l.copies l.links × Copied (objectors_in l.copies) l.objectors l.k × Copied (targets_in l.copies) l.targets l.k
+invariant-loop-k l = (l.k ≤ length l.objectors) × (length l.copies ≡ length l.initial.copies) ×
+    (length l.links ≡ length l.initial.links)
+    × Entered (length l.marks) l.k l.copies l.links × Copied (objectors_in l.copies) l.objectors l.k × Copied
+    (targets_in l.copies) l.targets l.k
     × ((j : ℕ) → j < l.k → ¬ Repeat l.objectors l.targets j)
 
 abbrev pub decreases-loop-k : goal.decreases-loop-k

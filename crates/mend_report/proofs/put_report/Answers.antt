@@ -16,8 +16,10 @@ pub loop-next-init : goal.loop-next-init
 loop-next-init c = (search rules, search rules, rw (no_rows (row_at c.args.fates.now)) (put_none c.args.room.now 0))
 
 pub put_row-end-requires : goal.put_row-end-requires
-put_row-end-requires c = subst (RoomFor c.loop-next.room c.loop-next.end) (sym (told_row c.args.fates.now c.loop-next.next c.if-fates-k-ne0.true))
-    (row_fits c.args.room.now 0 (row_at c.args.fates.now) c.loop-next.next (length c.args.fates.now) c.loop-next-test.true (report_fits c.args.fates.now c.args.room.now c.requires.1)
+put_row-end-requires c = subst (RoomFor c.loop-next.room c.loop-next.end) (sym
+    (told_row c.args.fates.now c.loop-next.next c.if-fates-k-ne0.true))
+    (row_fits c.args.room.now 0 (row_at c.args.fates.now) c.loop-next.next (length c.args.fates.now) c.loop-next-test.true
+    (report_fits c.args.fates.now c.args.room.now c.requires.1)
     c.loop-next.invariant.2 c.loop-next.invariant.1)
 
 pub loop-next-preserved-then-fates-k-ne0 : goal.loop-next-preserved-then-fates-k-ne0
@@ -25,7 +27,8 @@ loop-next-preserved-then-fates-k-ne0 c = (
   search rules,
   c.put_row-end.auto.room ∙ c.loop-next.invariant.1,
   row_put c.args.room.now 0 (row_at c.args.fates.now) c.loop-next.next
-      (rows_fit c.args.room.now 0 (row_at c.args.fates.now) c.loop-next.next (length c.args.fates.now) c.loop-next-test.true (report_fits c.args.fates.now c.args.room.now c.requires.1))
+      (rows_fit c.args.room.now 0 (row_at c.args.fates.now) c.loop-next.next (length c.args.fates.now) c.loop-next-test.true
+      (report_fits c.args.fates.now c.args.room.now c.requires.1))
       c.loop-next.invariant.2 (told_row c.args.fates.now c.loop-next.next c.if-fates-k-ne0.true) c.put_row-end.ensures,
 )
 
@@ -34,8 +37,10 @@ loop-next-preserved c = (
   search rules,
   c.loop-next.invariant.1,
   row_put c.args.room.now 0 (row_at c.args.fates.now) c.loop-next.next
-      (rows_fit c.args.room.now 0 (row_at c.args.fates.now) c.loop-next.next (length c.args.fates.now) c.loop-next-test.true (report_fits c.args.fates.now c.args.room.now c.requires.1))
-      c.loop-next.invariant.2 (kept_row c.args.fates.now c.loop-next.next c.if-fates-k-ne0.false) (put_none c.loop-next.room c.loop-next.end),
+      (rows_fit c.args.room.now 0 (row_at c.args.fates.now) c.loop-next.next (length c.args.fates.now) c.loop-next-test.true
+      (report_fits c.args.fates.now c.args.room.now c.requires.1))
+      c.loop-next.invariant.2 (kept_row c.args.fates.now c.loop-next.next c.if-fates-k-ne0.false)
+      (put_none c.loop-next.room c.loop-next.end),
 )
 
 pub returns : goal.returns

@@ -8,7 +8,8 @@ use Rattle.mend_report.proofs.NumberedReport.{row_at}
 use Rattle.mend_report.proofs.put_report.Given as goal
 
 abbrev pub invariant-loop-next : goal.invariant-loop-next
-invariant-loop-next l = (l.next ≤ length l.fates) × (length l.room ≡ length l.initial.room) × Put l.initial.room 0 (rows_to l.next (row_at l.fates)) l.end l.room
+invariant-loop-next l = (l.next ≤ length l.fates) × (length l.room ≡ length l.initial.room) × Put l.initial.room 0
+    (rows_to l.next (row_at l.fates)) l.end l.room
 
 abbrev pub decreases-loop-next : goal.decreases-loop-next
 decreases-loop-next l = length l.fates - l.next

@@ -33,7 +33,15 @@ loop-next-preserved-then-fates-k-ne0 c = (
 )
 
 pub loop-next-preserved : goal.loop-next-preserved
-loop-next-preserved c = (search rules, omega (arith, rows_longer (row_at c.args.fates.now) c.loop-next.next, ap length (kept_row c.args.fates.now c.loop-next.next c.if-fates-k-ne0.false)))
+loop-next-preserved c = (
+  search rules,
+  omega (
+    arith,
+    rows_longer (row_at c.args.fates.now) c.loop-next.next,
+    ap length
+        (kept_row c.args.fates.now c.loop-next.next c.if-fates-k-ne0.false),
+  ),
+)
 
 pub returns : goal.returns
 returns c = omega (

@@ -51,8 +51,10 @@ returns-in-Objection c = (
       c.args.fates.now c.args.k c.in-Objection.objection c.in-Good.next
       (rw (c.in-Good.is ∙ ap (λ (l : Line). Good l c.in-Good.next) c.in-Objection.is) at
       c.any_line.ensures)
-      (omega (arith, c.requires.at_in_bounds.2, c.requires.at_in_bounds.4)) (omega (arith, c.requires.objection_rooms.0.0, objectors_length c.args.objectors.now))
-      (omega (arith, c.requires.objection_rooms.0.0, targets_length c.args.objectors.now)) c.settle_objection-fate.result _ _ _ c.settle_objection-fate.ensures.0
+      (omega (arith, c.requires.at_in_bounds.2, c.requires.at_in_bounds.4))
+      (omega (arith, c.requires.objection_rooms.0.0, objectors_length c.args.objectors.now))
+      (omega (arith, c.requires.objection_rooms.0.0, targets_length c.args.objectors.now)) c.settle_objection-fate.result _ _ _
+      c.settle_objection-fate.ensures.0
       c.kept.result
       c.kept.ensures
       ),

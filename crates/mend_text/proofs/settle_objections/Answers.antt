@@ -74,7 +74,8 @@ pub returns : goal.returns
 returns c = let (ls, _, v) = c.loop-at.invariant.0 in
     let kept = objectors_in c.loop-at.objectors in
     let against = targets_in c.loop-at.objectors in
-    let last = objecting_last c.args.text.now ls c.loop-at.at c.args.n c.loop-at.m c.loop-at.k c.args.numbers.now c.loop-at.marks kept against
+    let last = objecting_last c.args.text.now ls c.loop-at.at c.args.n c.loop-at.m c.loop-at.k c.args.numbers.now c.loop-at.marks
+    kept against
     c.loop-at.fates v c.loop-at-test.false in
     record {
       ls = ls;

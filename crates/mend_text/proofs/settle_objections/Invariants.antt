@@ -14,7 +14,8 @@ abbrev pub invariant-loop-at : goal.invariant-loop-at
 invariant-loop-at l = ((ls : List TextLine) × StatementsSettled l.text ls l.n l.numbers l.initial.marks l.links l.initial.fates
     × Objecting l.text ls l.at l.n l.m l.k l.numbers l.marks (objectors_in l.objectors) (targets_in l.objectors) l.fates) ×
     (length l.marks ≡ length l.initial.marks)
-    × (length l.objectors ≡ length l.initial.objectors) × (length l.targets ≡ length l.initial.targets) × (length l.fates ≡ length l.initial.fates)
+    × (length l.objectors ≡ length l.initial.objectors) × (length l.targets ≡ length l.initial.targets) ×
+    (length l.fates ≡ length l.initial.fates)
     × Entered l.n l.m l.objectors l.targets
 
 abbrev pub decreases-loop-at : goal.decreases-loop-at

@@ -22,24 +22,30 @@ loop-at-init c = (
 )
 
 pub bounds-fates-k : goal.bounds-fates-k
-bounds-fates-k c = let room = fate_room c.args.text.now c.loop-at.invariant.0.0 c.loop-at.at c.loop-at.k c.loop-at.invariant.0.1.rest c.loop-at.invariant.0.1.lines_of c.loop-at.invariant.0.1.place
+bounds-fates-k c = let room = fate_room c.args.text.now c.loop-at.invariant.0.0 c.loop-at.at c.loop-at.k
+    c.loop-at.invariant.0.1.rest c.loop-at.invariant.0.1.lines_of c.loop-at.invariant.0.1.place
     c.loop-at-test.true c.requires.text_len_bound.0 in
     omega (arith, room, c.loop-at.invariant.4, c.requires.text_len_bound.1.2)
 
 pub overflow_add-k : goal.overflow_add-k
-overflow_add-k c = let room = fate_room c.args.text.now c.loop-at.invariant.0.0 c.loop-at.at c.loop-at.k c.loop-at.invariant.0.1.rest c.loop-at.invariant.0.1.lines_of c.loop-at.invariant.0.1.place
+overflow_add-k c = let room = fate_room c.args.text.now c.loop-at.invariant.0.0 c.loop-at.at c.loop-at.k
+    c.loop-at.invariant.0.1.rest c.loop-at.invariant.0.1.lines_of c.loop-at.invariant.0.1.place
     c.loop-at-test.true c.requires.text_len_bound.0 in
     omega (arith, room)
 
 pub loop-at-smaller : goal.loop-at-smaller
-loop-at-smaller c = let one = c.pass_statement-pass.ensures c.loop-at.invariant.0.1.rest c.loop-at.invariant.0.1.S c.loop-at.invariant.0.1.place.left c.loop-at.invariant.0.1.stated in
+loop-at-smaller c = let one = c.pass_statement-pass.ensures c.loop-at.invariant.0.1.rest c.loop-at.invariant.0.1.S
+    c.loop-at.invariant.0.1.place.left c.loop-at.invariant.0.1.stated in
     omega (arith, one.passed.onward, one.passed.within)
 
 pub loop-at-preserved : goal.loop-at-preserved
-loop-at-preserved c = let room = fate_room c.args.text.now c.loop-at.invariant.0.0 c.loop-at.at c.loop-at.k c.loop-at.invariant.0.1.rest c.loop-at.invariant.0.1.lines_of c.loop-at.invariant.0.1.place
+loop-at-preserved c = let room = fate_room c.args.text.now c.loop-at.invariant.0.0 c.loop-at.at c.loop-at.k
+    c.loop-at.invariant.0.1.rest c.loop-at.invariant.0.1.lines_of c.loop-at.invariant.0.1.place
     c.loop-at-test.true c.requires.text_len_bound.0 in
-    let one = c.pass_statement-pass.ensures c.loop-at.invariant.0.1.rest c.loop-at.invariant.0.1.S c.loop-at.invariant.0.1.place.left c.loop-at.invariant.0.1.stated in
-    let within : c.loop-at.k < length c.loop-at.fates = omega (arith, room, c.loop-at.invariant.4, c.requires.text_len_bound.1.2) in (
+    let one = c.pass_statement-pass.ensures c.loop-at.invariant.0.1.rest c.loop-at.invariant.0.1.S
+    c.loop-at.invariant.0.1.place.left c.loop-at.invariant.0.1.stated in
+    let within : c.loop-at.k < length c.loop-at.fates = omega (arith, room, c.loop-at.invariant.4, c.requires.text_len_bound.1.2)
+    in (
       (
         c.loop-at.invariant.0.0,
         stating_next c.args.text.now c.loop-at.invariant.0.0 c.loop-at.at c.loop-at.n c.loop-at.k c.loop-at.late c.loop-at.numbers
@@ -54,6 +60,7 @@ loop-at-preserved c = let room = fate_room c.args.text.now c.loop-at.invariant.0
 pub returns : goal.returns
 returns c = (
   c.loop-at.invariant.0.0,
-  stating_last c.args.text.now c.loop-at.invariant.0.0 c.loop-at.at c.loop-at.n c.loop-at.k c.loop-at.late c.loop-at.numbers c.loop-at.marks
+  stating_last c.args.text.now c.loop-at.invariant.0.0 c.loop-at.at c.loop-at.n c.loop-at.k c.loop-at.late c.loop-at.numbers
+      c.loop-at.marks
       c.loop-at.links c.loop-at.fates c.loop-at.invariant.0.1 c.loop-at-test.false,
 )

@@ -9,6 +9,7 @@ pub loop-v-preserved : goal.loop-v-preserved
 loop-v-preserved c = (
   search rules,
   c.put_begins.auto.links ∙ c.loop-v.invariant.1,
-  rw c.put_begins.ensures (none_more c.loop-v.links c.loop-v.v (omega (arith, c.loop-v-test.true, c.requires.0)) (omega (arith, c.loop-v.invariant.1, c.requires.1))
+  rw c.put_begins.ensures (none_more c.loop-v.links c.loop-v.v (omega (arith, c.loop-v-test.true, c.requires.0))
+      (omega (arith, c.loop-v.invariant.1, c.requires.1))
       c.loop-v.invariant.2),
 )

@@ -16,10 +16,12 @@ returns c = let pairs = c.put_pair.ensures ∙ ap (with_pair c.args.pairs.now c.
       subst₂ (Entered c.args.n (c.args.m + 1)) (sym pairs) (sym links) (chains_more c.args.n c.args.m c.args.pairs.now
           c.args.links.now c.requires.entered.0 c.requires.entered.1 c.args.y c.args.x c.requires.entered.2
           c.requires.entered.3 c.requires.by_index),
-      ap objectors_in pairs ∙ objectors_more c.args.n c.args.m c.args.pairs.now c.args.links.now c.requires.entered.0 c.requires.entered.1
+      ap objectors_in pairs ∙ objectors_more c.args.n c.args.m c.args.pairs.now c.args.links.now c.requires.entered.0
+          c.requires.entered.1
           c.args.y c.args.x c.requires.entered.2
           c.requires.entered.3 c.requires.by_index,
-      ap targets_in pairs ∙ targets_more c.args.n c.args.m c.args.pairs.now c.args.links.now c.requires.entered.0 c.requires.entered.1
+      ap targets_in pairs ∙ targets_more c.args.n c.args.m c.args.pairs.now c.args.links.now c.requires.entered.0
+          c.requires.entered.1
           c.args.y c.args.x c.requires.entered.2
           c.requires.entered.3 c.requires.by_index,
     )

@@ -25,7 +25,9 @@ loop-e-preserved c = let word = c.loop-e.invariant.5 c.loop-e.e (omega arith) in
 pub returns : goal.returns
 returns c = (
   given_back c.loop-e.pairs (objectors_in c.args.pairs.now) c.args.m (omega (arith, c.loop-e.invariant.1, c.requires.0))
-      (omega (arith, objectors_length c.args.pairs.now, c.requires.0)) (λ i h. c.loop-e.invariant.3 i (omega (arith, c.loop-e-test.false))),
+      (omega (arith, objectors_length c.args.pairs.now, c.requires.0)) (λ i h. c.loop-e.invariant.3 i
+      (omega (arith, c.loop-e-test.false))),
   given_back c.loop-e.links (targets_in c.args.pairs.now) c.args.m (omega (arith, c.loop-e.invariant.2, c.requires.1))
-      (omega (arith, targets_length c.args.pairs.now, c.requires.0)) (λ i h. c.loop-e.invariant.4 i (omega (arith, c.loop-e-test.false))),
+      (omega (arith, targets_length c.args.pairs.now, c.requires.0)) (λ i h. c.loop-e.invariant.4 i
+      (omega (arith, c.loop-e-test.false))),
 )

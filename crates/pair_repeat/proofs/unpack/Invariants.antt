@@ -7,7 +7,8 @@ use Rattle.pair_repeat.proofs.Unpacked.{Copied}
 use Rattle.pair_repeat.proofs.unpack.Given as goal
 
 abbrev pub invariant-loop-e : goal.invariant-loop-e
-invariant-loop-e l = (l.e ≤ l.m) × (length l.pairs ≡ length l.initial.pairs) × (length l.links ≡ length l.initial.links) × Copied l.pairs (objectors_in l.initial.pairs) l.e
+invariant-loop-e l = (l.e ≤ l.m) × (length l.pairs ≡ length l.initial.pairs) × (length l.links ≡ length l.initial.links) × Copied
+    l.pairs (objectors_in l.initial.pairs) l.e
     × Copied l.links (targets_in l.initial.pairs) l.e × ((i : ℕ) → l.e ≤ i → get_or l.pairs i 0 ≡ get_or l.initial.pairs i 0)
 
 abbrev pub decreases-loop-e : goal.decreases-loop-e

@@ -19,7 +19,8 @@ tick_statement-tail-requires c = (
 pub loop-at-init : goal.loop-at-init
 loop-at-init c = (
   spread_begins _ _ _ _ _ c.args.room.now _ _ _ _ c.requires.room_len.1
-      (grown_in_room _ _ _ c.args.room.now _ _ _ _ c.requires.room_len.0 c.tick_statement-tail.ensures.0) c.tick_statement-tail.ensures.1,
+      (grown_in_room _ _ _ c.args.room.now _ _ _ _ c.requires.room_len.0 c.tick_statement-tail.ensures.0)
+      c.tick_statement-tail.ensures.1,
   c.tick_statement-tail.ensures.0.as_long,
 )
 
@@ -29,7 +30,12 @@ tick_objectors-tail-requires-clause-lists_labelled c = (
   record {
     chained = c.chain.ensures;
     head_room = omega (arith, c.chain.auto.head, c.requires.lists_labelled.0.handed.few_marks);
-    next_room = omega (arith, c.chain.auto.next, c.requires.lists_labelled.0.handed.few_pairs, c.requires.lists_labelled.0.handed.order.paired);
+    next_room = omega (
+      arith,
+      c.chain.auto.next,
+      c.requires.lists_labelled.0.handed.few_pairs,
+      c.requires.lists_labelled.0.handed.order.paired,
+    );
   },
   omega (
     arith,
@@ -42,7 +48,8 @@ tick_objectors-tail-requires-clause-lists_labelled c = (
 pub loop-at-preserved : goal.loop-at-preserved
 loop-at-preserved c = (
   spread_more _ _ _ _ _ _ _ _ _ c.loop-at.invariant.0 _ _ _ _ c.loop-at-test.true c.wide-x.ensures
-      (grown_in_room _ _ _ _ _ _ _ _ c.loop-at.invariant.0.queued.same c.tick_objectors-tail.ensures.grown) c.tick_objectors-tail.ensures.by_index,
+      (grown_in_room _ _ _ _ _ _ _ _ c.loop-at.invariant.0.queued.same c.tick_objectors-tail.ensures.grown)
+      c.tick_objectors-tail.ensures.by_index,
   c.tick_objectors-tail.ensures.grown.as_long ∙ c.loop-at.invariant.1,
 )
 

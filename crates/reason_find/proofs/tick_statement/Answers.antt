@@ -6,4 +6,8 @@ pub bounds-queue-tail : goal.bounds-queue-tail
 bounds-queue-tail c = queue_room _ _ _ _ _ c.requires.0 c.requires.1 c.if-room-y-ne0.false
 
 pub returns : goal.returns
-returns c = (grown_one _ _ _ _ _ c.requires.0 c.requires.1 c.if-room-y-ne0.false, now_ticked _ _ _ _ _ c.requires.0 c.requires.1 c.if-room-y-ne0.false)
+returns c = (
+  grown_one _ _ _ _ _ c.requires.0 c.requires.1 c.if-room-y-ne0.false,
+  now_ticked _ _ _ _ _ c.requires.0 c.requires.1
+      c.if-room-y-ne0.false,
+)

@@ -14,4 +14,5 @@ loop-next-smaller c = omega (
 )
 
 pub loop-next-preserved : goal.loop-next-preserved
-loop-next-preserved c = walk_more _ _ _ c.requires _ _ _ _ _ c.loop-next.invariant c.loop-next-test.true c.below-next-in-loop-next.ensures
+loop-next-preserved c = walk_more _ _ _ c.requires _ _ _ _ _ c.loop-next.invariant c.loop-next-test.true
+    c.below-next-in-loop-next.ensures

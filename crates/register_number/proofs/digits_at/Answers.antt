@@ -5,10 +5,12 @@ use Rattle.register_number.proofs.NumberSteps.{below_last}
 use Rattle.register_number.proofs.digits_at.Goals as goal
 
 pub returns-then-first-eq0 : goal.returns-then-first-eq0
-returns-then-first-eq0 c = zero_first c.args.most (omega arith) (omega arith) c.args.s.now _ _ c.digit_at-first.ensures (omega arith)
+returns-then-first-eq0 c = zero_first c.args.most (omega arith) (omega arith) c.args.s.now _ _ c.digit_at-first.ensures
+    (omega arith)
 
 pub returns-then-first-gt9 : goal.returns-then-first-gt9
-returns-then-first-gt9 c = none_first c.args.most (omega arith) (omega arith) c.args.s.now _ _ c.digit_at-first.ensures (omega arith)
+returns-then-first-gt9 c = none_first c.args.most (omega arith) (omega arith) c.args.s.now _ _ c.digit_at-first.ensures
+    (omega arith)
 
 pub loop-i-init : goal.loop-i-init
 loop-i-init c = begin _ (omega arith) (omega arith) _ _ _ c.digit_at-first.ensures (λ e. omega arith) (omega arith)

@@ -21,7 +21,8 @@ overflow_add-result-in-Year c = omega (
 )
 
 pub returns-in-Plain : goal.returns-in-Plain
-returns-in-Plain c = c.decimal_size.ensures ∙ sym (ap length (plain_bytes c.args.number c.form_of-form.result c.form_of-form.ensures _ c.in-Plain.is))
+returns-in-Plain c = c.decimal_size.ensures ∙ sym (ap length (plain_bytes c.args.number c.form_of-form.result
+    c.form_of-form.ensures _ c.in-Plain.is))
 
 pub returns-in-Year : goal.returns-in-Year
 returns-in-Year c = omega (

@@ -10,9 +10,11 @@ use Rattle.register_read.proofs.Reader.{Inv}
 use Rattle.register_read.proofs.read_lines.Given as goal
 
 abbrev pub invariant-loop-at : goal.invariant-loop-at
-invariant-loop-at l = Inv l.text l.at l.n l.m l.numbers l.marks (objectors_in l.objectors) (targets_in l.objectors) × (length l.numbers ≡ length l.initial.numbers) ×
+invariant-loop-at l = Inv l.text l.at l.n l.m l.numbers l.marks (objectors_in l.objectors) (targets_in l.objectors) ×
+    (length l.numbers ≡ length l.initial.numbers) ×
     (length l.marks ≡ length l.initial.marks)
-    × (length l.objectors ≡ length l.initial.objectors) × (length l.targets ≡ length l.initial.targets) × (length l.links ≡ length l.initial.links)
+    × (length l.objectors ≡ length l.initial.objectors) × (length l.targets ≡ length l.initial.targets) ×
+    (length l.links ≡ length l.initial.links)
     × Indexed l.numbers l.n l.links × (0 < l.m → Entered l.n l.m l.objectors l.targets)
 
 abbrev pub decreases-loop-at : goal.decreases-loop-at

@@ -11,7 +11,11 @@ use Rattle.std.proofs.Common.{rules}
 use Rattle.register_write.proofs.objections_size.Goals as goal
 
 pub loop-k-init : goal.loop-k-init
-loop-k-init c = (search rules, sym (ap length (no_rows (objection_text c.args.numbers.now c.args.objectors.now c.args.targets.now))))
+loop-k-init c = (
+  search rules,
+  sym (ap length (no_rows (objection_text c.args.numbers.now c.args.objectors.now
+      c.args.targets.now))),
+)
 
 pub overflow_add-total : goal.overflow_add-total
 overflow_add-total c = omega (
@@ -48,7 +52,8 @@ loop-k-preserved c = (
   omega (
     arith,
     rows_longer (objection_text c.args.numbers.now c.args.objectors.now c.args.targets.now) c.loop-k.k,
-    ap length (own_text c.args.numbers.now c.args.objectors.now c.args.targets.now c.loop-k.k c.place-y.ensures c.place-x.ensures),
+    ap length (own_text c.args.numbers.now c.args.objectors.now c.args.targets.now c.loop-k.k c.place-y.ensures
+        c.place-x.ensures),
     objection_length (get_or c.args.numbers.now c.place-y.result 0) (get_or c.args.numbers.now c.place-x.result 0),
     c.number_size.ensures,
     c.number_size-in-loop-k.ensures,

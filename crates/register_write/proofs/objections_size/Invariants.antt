@@ -7,7 +7,8 @@ use Rattle.register_write.specs.Copied.{objection_text}
 use Rattle.register_write.proofs.objections_size.Given as goal
 
 abbrev pub invariant-loop-k : goal.invariant-loop-k
-invariant-loop-k l = (l.k ≤ length l.objectors) × (l.total ≡ length (rows_to l.k (objection_text l.numbers l.objectors l.targets)))
+invariant-loop-k l = (l.k ≤ length l.objectors) × (l.total ≡ length (rows_to l.k
+    (objection_text l.numbers l.objectors l.targets)))
 
 abbrev pub decreases-loop-k : goal.decreases-loop-k
 decreases-loop-k l = length l.objectors - l.k

@@ -17,7 +17,8 @@ loop-k-init c = (
 )
 
 pub put_objection-end-requires-clause-room_for : goal.put_objection-end-requires-clause-room_for
-put_objection-end-requires-clause-room_for c = let row = objection_text c.args.numbers.now c.args.objectors.now c.args.targets.now in row_fits c.args.room.now c.args.at row c.loop-k.k (length c.args.objectors.now) c.loop-k-test.true
+put_objection-end-requires-clause-room_for c = let row = objection_text c.args.numbers.now c.args.objectors.now c.args.targets.now
+    in row_fits c.args.room.now c.args.at row c.loop-k.k (length c.args.objectors.now) c.loop-k-test.true
     c.requires.room_for c.loop-k.invariant.2 c.loop-k.invariant.1
 
 pub loop-k-preserved : goal.loop-k-preserved

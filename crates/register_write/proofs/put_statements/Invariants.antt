@@ -8,7 +8,8 @@ use Rattle.register_write.specs.Copied.{statement_text}
 use Rattle.register_write.proofs.put_statements.Given as goal
 
 abbrev pub invariant-loop-i : goal.invariant-loop-i
-invariant-loop-i l = (l.i ≤ length l.numbers) × (length l.room ≡ length l.initial.room) × Put l.initial.room l.at (rows_to l.i (statement_text l.numbers l.marks)) l.end l.room
+invariant-loop-i l = (l.i ≤ length l.numbers) × (length l.room ≡ length l.initial.room) × Put l.initial.room l.at
+    (rows_to l.i (statement_text l.numbers l.marks)) l.end l.room
 
 abbrev pub decreases-loop-i : goal.decreases-loop-i
 decreases-loop-i l = length l.numbers - l.i

@@ -8,7 +8,8 @@ use Rattle.register_write.specs.Copied.{statement_text}
 use Rattle.register_write.proofs.statements_size.Given as goal
 
 abbrev pub invariant-loop-i : goal.invariant-loop-i
-invariant-loop-i l = (l.i ≤ length l.numbers) × ((marks : List ℕ) → l.total ≡ length (rows_to l.i (statement_text l.numbers marks)))
+invariant-loop-i l = (l.i ≤ length l.numbers) × ((marks : List ℕ) → l.total ≡ length
+    (rows_to l.i (statement_text l.numbers marks)))
 
 abbrev pub decreases-loop-i : goal.decreases-loop-i
 decreases-loop-i l = length l.numbers - l.i

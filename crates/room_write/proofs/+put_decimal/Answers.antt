@@ -15,7 +15,8 @@ pub bounds-room-at : goal.bounds-room-at
 bounds-room-at t c = omega (arith, one_digit c.args.number (omega arith))
 
 pub returns-then-number-lt10 : goal.returns-then-number-lt10
-returns-then-number-lt10 t c = rw (decimal_one c.args.number (omega arith)) (put_one c.args.room.now c.args.at (48 + c.args.number)
+returns-then-number-lt10 t c = rw (decimal_one c.args.number (omega arith))
+    (put_one c.args.room.now c.args.at (48 + c.args.number)
     (omega (arith, one_digit c.args.number (omega arith))))
 
 pub put_digits-requires : goal.put_digits-requires

@@ -6,7 +6,8 @@ use Rattle.room_write.specs.Writing.{Put}
 use Rattle.room_write.proofs.put_word.Given as goal
 
 abbrev pub invariant-loop-i : goal.invariant-loop-i
-invariant-loop-i l = (l.i ≤ length l.word) × (length l.room ≡ length l.initial.room) × Put l.initial.room l.at (take l.i l.word) l.end l.room
+invariant-loop-i l = (l.i ≤ length l.word) × (length l.room ≡ length l.initial.room) × Put l.initial.room l.at (take l.i l.word)
+    l.end l.room
 
 abbrev pub decreases-loop-i : goal.decreases-loop-i
 decreases-loop-i l = length l.word - l.i

@@ -21,11 +21,24 @@ bounds-counts-code c = omega (
 )
 
 pub overflow_add-counts : goal.overflow_add-counts
-overflow_add-counts c = let small : c.wide-code.result < 4 = omega (arith, c.wide-code.ensures, c.code_at.ensures, code_small c.args.sheet.now c.loop-x.x) in
+overflow_add-counts c = let small : c.wide-code.result < 4 = omega (
+  arith,
+  c.wide-code.ensures,
+  c.code_at.ensures,
+  code_small
+      c.args.sheet.now c.loop-x.x,
+) in
     omega (arith, c.loop-x.invariant.2 c.wide-code.result small, total_few c.args.sheet.now c.loop-x.x c.wide-code.result)
 
 pub bounds-counts-code-in-loop-x : goal.bounds-counts-code-in-loop-x
-bounds-counts-code-in-loop-x c = (omega (arith, c.loop-x.invariant.1, c.wide-code.ensures, c.code_at.ensures, code_small c.args.sheet.now c.loop-x.x))
+bounds-counts-code-in-loop-x c = (omega (
+  arith,
+  c.loop-x.invariant.1,
+  c.wide-code.ensures,
+  c.code_at.ensures,
+  code_small
+      c.args.sheet.now c.loop-x.x,
+))
 
 pub loop-x-preserved : goal.loop-x-preserved
 loop-x-preserved c = (

@@ -5,7 +5,8 @@ use Rattle.sheet_write.proofs.SheetGiven.{codable, sheet_short, sheet_in_lem}
 use Rattle.sheet_write.proofs.fresh_rooms.Goals as goal
 
 pub returns-then-sheet-size : goal.returns-then-sheet-size
-returns-then-sheet-size c = λ B of. sheet_short B c.args.n c.args.labels.now of c.args.sheet.now c.args.totals.now c.if-sheet-size.true
+returns-then-sheet-size c = λ B of. sheet_short B c.args.n c.args.labels.now of c.args.sheet.now c.args.totals.now
+    c.if-sheet-size.true
 
 pub fresh-requires : goal.fresh-requires
 fresh-requires c = (

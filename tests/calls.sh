@@ -298,10 +298,11 @@ names_said() {
         grep -x "[A-Za-z][A-Za-z0-9_'-]*[A-Za-z0-9_']" | sort -u
 }
 
-# name_there NAME: in a source or a test, or an edit
+# name_there NAME: in a source or a test, or an edit, or a crate
 name_there() {
-    grep -rqw --exclude-dir=out --include='*.antt' --include='*.rt' --include='*.edit' --include='*.h' --include='*.sh' --include=ASSUMPTIONS.md \
-        -- "$1" crates include tests docs/ASSUMPTIONS.md || edit_there "$1"
+    [ -d "crates/$1" ] || edit_there "$1" ||
+        grep -rqw --exclude-dir=out --include='*.antt' --include='*.rt' --include='*.edit' --include='*.h' --include='*.sh' \
+            --include=ASSUMPTIONS.md -- "$1" crates include tests docs/ASSUMPTIONS.md
 }
 
 edit_there() { compgen -G "crates/*/must-fail/$1.edit" >/dev/null; }

@@ -209,9 +209,9 @@ int main(void) {
                  {"listing", listing, 72},
                  {"sheet", fresh_sheet, 72},
                  {"update of a sheet", sheet_update, 72},
-                 {"catalogue", catalogue, 72},
                  {"way back from a catalogue", uncatalogue, 72},
                  {"reason", reason, 80},
+                 {"catalogue", catalogue, 80},
                  {"mending", mend, 128},
                  {"line in lists", pairs_line, 256},
                  {"line in a text", text_line, 256}};

@@ -5,10 +5,12 @@ use Rattle.lists.specs.Refuses.{Lists}
 use Rattle.call_argument.proofs.pairs_line.Goals as goal
 
 pub argument-n-requires : goal.argument-n-requires
-argument-n-requires c = let l : Lists c.args.marks.now c.args.objectors.now c.args.targets.now = rw c.in_default.is at c.check-checked.ensures in (
-  settled _ _ _ l _ _ _ _ c.solve.ensures (omega (arith, c.solve.auto.labels)) (omega (arith, c.solve.auto.lengths)),
-  c.if-x-marks.false,
-)
+argument-n-requires c =
+    let l : Lists c.args.marks.now c.args.objectors.now c.args.targets.now = rw c.in_default.is at c.check-checked.ensures
+    in (
+      settled _ _ _ l _ _ _ _ c.solve.ensures (omega (arith, c.solve.auto.labels)) (omega (arith, c.solve.auto.lengths)),
+      c.if-x-marks.false,
+    )
 
 pub overflow_cast-result : goal.overflow_cast-result
 overflow_cast-result c = let l : Lists c.args.marks.now c.args.objectors.now c.args.targets.now = rw c.in_default.is at

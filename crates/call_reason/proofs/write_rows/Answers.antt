@@ -17,8 +17,8 @@ overflow_add-size c = let sum = rows_sum c.args.numbers.now c.args.objectors.now
     )
 
 pub returns-then-room-size : goal.returns-then-room-size
-returns-then-room-size c = let sum = rows_sum c.args.numbers.now c.args.objectors.now c.args.targets.now c.args.labels.now c.args.lengths.now
-    c.args.inside.now c.args.x _ _
+returns-then-room-size c = let sum = rows_sum c.args.numbers.now c.args.objectors.now c.args.targets.now c.args.labels.now
+    c.args.lengths.now c.args.inside.now c.args.x _ _
     c.statement_size.ensures c.rows_size.ensures in
     ((omega (arith, sum, c.if-room-size.true), refl), refl)
 

@@ -1,10 +1,14 @@
 -- `write_reason` refuses a number that is not listed; what has room then is the reason of its statement.
+use mathlib.Core.Path.{refl}
 use native.Mathlib.Omega.{arith}
 use Rattle.pair_chain.proofs.ChainSteps.{all_zero}
-use Rattle.register_solve.proofs.AskedPlace.{counted, ready_settled}
+use Rattle.register_solve.proofs.AskedPlace.{counted, unlisted, ready_settled}
 use Rattle.listing_row.proofs.RowTold.{ready_lists}
 use Rattle.call_reason.proofs.AskedReason.{reason_written}
 use Rattle.call_reason.proofs.write_reason.Goals as goal
+
+pub returns-then-x-statements : goal.returns-then-x-statements
+returns-then-x-statements c = λ R ready. (unlisted R _ _ _ _ ready.made _ _ c.find-x.ensures _ _ c.if-x-statements.true, refl)
 
 pub choose-requires-clause-lists_labelled : goal.choose-requires-clause-lists_labelled
 choose-requires-clause-lists_labelled c = let settled = ready_settled _ _ _ _ _ _ _ c.requires.1 in

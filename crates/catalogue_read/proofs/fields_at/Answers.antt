@@ -1,7 +1,7 @@
 -- `fields_at` goes from tab to tab. The invariant: what is passed are fields, which the rooms hold.
 use mathlib.Core.Path.{sym, ◌∙◌}
 use native.Mathlib.Omega.{arith}
-use Rattle.catalogue_read.proofs.CardText.{start, turn, no_number, no_end}
+use Rattle.catalogue_read.proofs.CardText.{start, turn, no_number, no_end, all}
 use Rattle.catalogue_read.proofs.fields_at.Goals as goal
 
 pub loop-end-init : goal.loop-end-init
@@ -25,3 +25,6 @@ pub returns-then-byte_at-ne10 : goal.returns-then-byte_at-ne10
 returns-then-byte_at-ne10 c = no_end _ _ _ _ _ _ _ _ _ _ c.loop-end.invariant
     (λ e. c.loop-end-test.false (c.byte_at.ensures ∙ e))
     (λ e. c.if-byte_at-ne10.true (c.byte_at-2.ensures ∙ e))
+
+pub returns : goal.returns
+returns c = all _ _ _ _ _ _ _ _ _ _ c.loop-end.invariant (sym c.byte_at-2.ensures ∙ c.if-byte_at-ne10.false)

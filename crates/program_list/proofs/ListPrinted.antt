@@ -31,4 +31,4 @@ module _ (s room : List ℕ) (long : 131072 ≤ length room) where
       (GivenOn (Accepts s) (λ R. ListingIn R room)) (λ l. (R : Register) × Accepts s R × IsListing R l) room
       (λ n after (R, a, (l, is, w)). (l, (R, a, is), w)) a after size put
       p w in
-      (fits, ⊎_elim inl (λ (r, p, e). inr (fault_printed (take size put) r (refused_text r p) e)) shown)
+      (fits, ⊎_elim inl (λ (r, p, e). inr (fault_printed s (take size put) r (refused_text r p) e)) shown)

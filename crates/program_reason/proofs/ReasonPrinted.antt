@@ -48,7 +48,7 @@ module _ (s argument room : List ℕ) (long : 131072 ≤ length room) (number : 
   -- a room of 131,072 bytes is never too short, and no turns are asked
   refused : (r : Refusal) (printed : List ℕ) → RefusedOn (Accepts s) (TextRefused s) (λ R. ReasonRefused R number room) r
       → PrintsRefusal r printed → PrintsReason s argument printed
-  refused r printed (inl p) e = inl (fault_printed printed r p e)
+  refused r printed (inl p) e = inl (fault_printed s printed r p e)
   refused r printed (inr (R, a, inl (missing, is))) e =
       inr (R, a, inr (none_named R missing, e ∙ ap (λ u. refused_row (refusal_number u) (refusal_place u)) is))
   refused r printed (inr (R, a, inr (inl (there, many, is)))) e = absurd (omega (arith, many))

@@ -9,7 +9,7 @@ use Rattle.catalogue.specs.CatalogueReads.{CatalogueAccepts}
 use Rattle.answer.specs.declared.Answer.{Answer}
 use Rattle.promises.specs.CatalogueCalls.{CatalogueText}
 use Rattle.promises.specs.Programs.{PrintsOldForm}
-use Rattle.promises.proofs.Programs.{fault_printed}
+use Rattle.promises.proofs.Programs.{fault_told}
 use Rattle.program_stream.specs.PutAnswer.{PutOf}
 use Rattle.program_stream.proofs.PutAnswer.{written_shown}
 
@@ -18,4 +18,4 @@ pub prints : (s room : List ℕ) → 65535 ≤ length room → (a : Answer) (aft
 prints s room long a after size put p w =
     let (fits, shown) = written_shown {accepts = CatalogueAccepts s} written room (λ R t. omega (arith, long, t.fits))
     a after size put p w in
-    (fits, ⊎_elim inl (λ (r, q, e). inr (fault_printed (take size put) r q e)) shown)
+    (fits, ⊎_elim inl (λ (r, q, e). inr (fault_told (take size put) r q e)) shown)

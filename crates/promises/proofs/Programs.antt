@@ -9,6 +9,7 @@ use native.Mathlib.Omega.{arith}
 use lib.ListN.{length, get_or}
 use Rattle.answer.specs.Refusals.{refusal_number, refusal_place}
 use Rattle.answer.specs.declared.Refusal.{Refusal}
+use Rattle.promises.specs.OnText.{TextRefused}
 use Rattle.promises.specs.NumberCalls.{Names}
 use Rattle.promises.proofs.OnNumber.{names_once, names?}
 use Rattle.register.specs.Register.{Register, Places, numbers, written}
@@ -43,10 +44,14 @@ fault_line_once once a b (r, p, e) (t, q, f) =
 fault_printed_once : (s a b : List ℕ) → PrintsFault s a → PrintsFault s b → a ≡ b
 fault_printed_once s = fault_line_once (text.refuses_once s)
 
-pub fault_printed : {faults : TextFault → Type 0} (printed : List ℕ) (r : Refusal)
+pub fault_told : {faults : TextFault → Type 0} (printed : List ℕ) (r : Refusal)
     → (f : TextFault) × faults f × (r ≡ Text f) → PrintsRefusal r printed
     → (f : TextFault) × faults f × PrintsRefusal (Text f) printed
-fault_printed printed r (f, p, is) e = (f, p, subst (λ u. PrintsRefusal u printed) is e)
+fault_told printed r (f, p, is) e = (f, p, subst (λ u. PrintsRefusal u printed) is e)
+
+-- the line of a text's refusal is that of its fault
+pub fault_printed : (s printed : List ℕ) (r : Refusal) → TextRefused s r → PrintsRefusal r printed → PrintsFault s printed
+fault_printed s printed r (f, p, is) e = (f, p, subst (λ u. PrintsRefusal u printed) is e)
 
 -- Where an input is accepted as one register or has one fault, never both, what is printed of the register is one thing, or the
 -- line of the fault is; and one of them is there.

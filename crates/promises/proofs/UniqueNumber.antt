@@ -10,7 +10,9 @@ use lib.Seq.{take-append_seam}
 use Rattle.register.specs.Number.{IsNumber, number_bytes}
 use Rattle.register.specs.declared.TextFault.TheVariants.{Spoiled}
 use Rattle.register.proofs.Number.{number_short}
+use Rattle.answer.specs.declared.Refusal.{Refusal}
 use Rattle.answer.specs.declared.Refusal.TheVariants.{Text, Room}
+use Rattle.answer.specs.Answer.{Short, Written}
 use Rattle.answer.specs.declared.Answer.{Answer}
 use Rattle.answer.specs.declared.Answer.TheVariants.{Refused, Given}
 use Rattle.answer.proofs.Promises.{through}
@@ -39,6 +41,10 @@ module _ (written : List ℕ) where
       (⊎_elim (λ q. q.0) (λ q. absurd q.2), λ none. inl (none, refl))
 
 module _ (number : ℕ) (room : List ℕ) where
+  fits : (l : List ℕ) → Names l number → (r : Refusal) (n : ℕ) (after : List ℕ) → Short (length room < length l) r
+      → Written l room n after → ⊥
+  fits l t r n after p g = omega (arith, p.0, g.1)
+
   pub unique_number_text : (a a' : Answer) (after after' : List ℕ) → NumberText number room a after
       → NumberText number room a' after' → (a ≡ a') × (after ≡ after')
   unique_number_text = written_for_unique (code_apart number) (λ l. l) room

@@ -1,9 +1,10 @@
 -- A text is read in one way: it is the written form of one register at most, it is never both accepted and refused, and it
--- gets one refusal at most. Of two registers that one text begins with, one's lines go on after the other's, as `Pieces` has it
--- for all texts; and no row of the table applies to a line with which a register goes on.
+-- gets one refusal at most. Two registers that one text begins with are such that the one's lines go on after the other's,
+-- and no row of the table applies to a line with which a register goes on.
 use mathlib.Core.List.{List, append_assoc, map, append-nil, [], ◌∷◌, ◌++◌}
+use mathlib.Core.Logic.{inl, inr, ◌⊎◌}
 use mathlib.Core.Path.{refl, sym, ap, ◌≡◌, subst, subst₃, ◌∙◌}
-use Prim.Native.Nat.{ℕ, suc, ◌+◌, ◌≤◌, ◌<◌}
+use Prim.Native.Nat.{ℕ, suc, ◌+◌, ◌-◌, ◌≤◌, ◌<◌}
 use native.Mathlib.Omega.{arith}
 use lib.ListN.{length, get_or, length-append, get_or-append, length-map}
 use lib.Seq.{get_or_at}
@@ -14,8 +15,6 @@ use Rattle.register.specs.declared.ObjectionLine.{ObjectionLine}
 use Rattle.register.specs.declared.Line.{Line}
 use Rattle.register.specs.declared.Line.TheVariants.{Statement, Objection}
 use Rattle.register.proofs.Lines.{line_once, line_not_empty, line_ended}
-use Rattle.register.proofs.Pieces as pieces
-use Rattle.register.proofs.Pieces.{no_piece, by_row}
 use Rattle.register.specs.declared.TextFault.{TextFault}
 use Rattle.register.specs.declared.TextFault.TheVariants.{Late, Statements, Issued, Objections, Unknown, Repeated}
 use Rattle.register.specs.declared.TextFault.TheVariants.{Spoiled, TooLong, Unended}
@@ -31,6 +30,33 @@ Formed (l ∷ ls) = WellFormed l × Formed ls
 pub formed_append : (ls ms : List Line) → Formed ls → Formed ms → Formed (ls ++ ms)
 formed_append [] ms a b = b
 formed_append (l ∷ ls) ms (h, a) b = (h, formed_append ls ms a b)
+
+formed_next : (ls : List Line) (l : Line) (ms : List Line) → Formed (ls ++ (l ∷ ms)) → WellFormed l
+formed_next [] l ms (h, a) = h
+formed_next (m ∷ ls) l ms (h, a) = formed_next ls l ms a
+
+-- The lines ls', with rest' behind them, go on where ls with rest behind them stop: by any number of lines, or by one at
+-- least.
+abbrev pub GoesOn : List Line → List ℕ → List Line → List ℕ → Type 0
+GoesOn ls rest ls' rest' = (more : List Line) × (ls' ≡ ls ++ more) × (rest ≡ bytes more ++ rest')
+
+abbrev pub GoesFurther : List Line → List ℕ → List Line → List ℕ → Type 0
+GoesFurther ls rest ls' rest' = (l : Line) × (more : List Line) × (ls' ≡ ls ++ (l ∷ more)) × (rest ≡ bytes (l ∷ more) ++ rest')
+
+-- of two lists of lines that one text begins with, one goes on where the other stops
+pub one_goes_on : (ls ls' : List Line) (rest rest' : List ℕ) → Formed ls → Formed ls' → bytes ls ++ rest ≡ bytes ls' ++ rest'
+    → GoesOn ls rest ls' rest' ⊎ GoesFurther ls' rest' ls rest
+unfolding bytes
+one_goes_on [] ls' rest rest' a b e = inl (ls', refl, e)
+one_goes_on (l ∷ ls) [] rest rest' a b e = inr (l, ls, refl, sym e)
+one_goes_on (l ∷ ls) (l' ∷ ls') rest rest' (h, a) (k, b) e =
+    let (f, g) = line_once l l' (bytes ls ++ rest) (bytes ls' ++ rest') h k (simp append_assoc at e) in
+    go f (one_goes_on ls ls' rest rest' a b g)
+  where
+    go : l ≡ l' → GoesOn ls rest ls' rest' ⊎ GoesFurther ls' rest' ls rest → GoesOn (l ∷ ls) rest (l' ∷ ls') rest'
+        ⊎ GoesFurther (l' ∷ ls') rest' (l ∷ ls) rest
+    go f (inl (more, p, q)) = inl (more, cc, q)
+    go f (inr (m, more, p, q)) = inr (m, more, cc, q)
 
 -- the lines of a register within the limits are well formed
 statements_formed : (sts : List StatementLine) → ((i : ℕ) → i < length (map (λ (st : StatementLine). st.number) sts)
@@ -256,14 +282,43 @@ no_row R R' (Objection o) more k r v e (unknown h n) = n (both_known R R' o more
 no_row R R' (Objection o) more k r v e (repeated h i j p) = not_repeated R R' o more e v p
 
 -- What stops the reading at line k: no line, or a line to which a row applies.
-abbrev Stop : Register → List ℕ → ℕ → TextFault → Type 0
-Stop R rest k = pieces.Stop BeginsWith (Row R k) (Spoiled k) rest
+data Stop (R : Register) (rest : List ℕ) (k : ℕ) : TextFault → Type 0 where
+  no_line : 0 < length rest → ((l : Line) → ¬ BeginsWith l rest) → Stop R rest k (Spoiled k)
+  by_row : {r : TextFault} (l : Line) → BeginsWith l rest → Row R k l r → Stop R rest k r
+
+stop_once : {R : Register} {rest : List ℕ} {k : ℕ} {r r' : TextFault} → Stop R rest k r → Stop R rest k r' → r ≡ r'
+stop_once (no_line h f) (no_line i g) = refl
+stop_once (no_line h f) (by_row l b a) = absurd (f l b)
+stop_once (by_row l b a) (no_line h f) = absurd (f l b)
+stop_once {R} {k = k} {r' = r'} (by_row l (h, (t, e)) a) (by_row l' (h', (t', e')) a') =
+    row_once a (subst (λ m. Row R k m r') (line_once l' l t' t h' h (sym e' ∙ e)).0 a')
 
 -- reading does not stop where the text goes on with a line of a register within the limits
-no_stop : (R R' : Register) (rest : List ℕ) (k : ℕ) (r : TextFault) → Valid R' → Stop R rest k r
-    → ¬ pieces.GoesOn line_bytes WellFormed (lines R) rest (lines R')
-no_stop R R' rest k r v p (l, more, e, b) =
-    pieces.no_stop line_bytes WellFormed line_once (Row R k) (Spoiled k) rest l b (λ t. no_row R R' l more k t v e) r p
+no_stop : (R R' : Register) (rest t : List ℕ) (l : Line) (more : List Line) (k : ℕ) (r : TextFault) → Valid R'
+    → lines R' ≡ lines R ++ (l ∷ more) → rest ≡ bytes (l ∷ more) ++ t → Stop R rest k r → ⊥
+unfolding bytes
+no_stop R R' rest t l more k r v e f s = go s
+  where
+    next : BeginsWith l rest
+    next = (
+      formed_next (lines R) l more (subst Formed e (lines_formed R' v)),
+      (bytes more ++ t, f ∙ append_assoc (line_bytes l) (bytes more) t),
+    )
+
+    go : {b : TextFault} → Stop R rest k b → ⊥
+    go (no_line h g) = g l next
+    go {b} (by_row m (h, (u, d)) a) =
+        no_row R R' l more k b v e (subst (λ n. Row R k n b) (line_once m l u next.1.0 h next.0 (sym d ∙ next.1.1)).0 a)
+
+-- at the end of the text no line stands, and reading does not stop
+not_at_end : (l : Line) (more : List Line) (t : List ℕ) → [] ≡ bytes (l ∷ more) ++ t → ⊥
+unfolding bytes
+not_at_end l more t e =
+    omega (arith, ap length (e ∙ append_assoc (line_bytes l) (bytes more) t), line_not_empty l (bytes more ++ t))
+
+stop_inside : {R : Register} {rest : List ℕ} {k : ℕ} {r : TextFault} → Stop R rest k r → 0 < length rest
+stop_inside (no_line h f) = h
+stop_inside (by_row l (h, (t, e)) a) = omega (arith, ap length e, line_not_empty l t)
 
 -- Why a text is refused: the first two rows, or the line at which its reading stops.
 data Cause (s : List ℕ) : TextFault → Type 0 where
@@ -288,7 +343,7 @@ reached_as f p =
 cause : (s : List ℕ) (r : TextFault) → Refuses s r → Cause s r
 cause s TooLong h = too_long h
 cause s Unended (h, n) = unended h n
-cause s (Spoiled k) p = stopped k (reached_as (λ R rest a. no_piece a.0 a.1) p)
+cause s (Spoiled k) p = stopped k (reached_as (λ R rest a. no_line a.0 a.1) p)
 cause s (Late k) p = stopped k (reached_as (λ R rest a. by_row (Statement a.0) a.1 (late a.2)) p)
 cause s (Statements k) p =
     stopped k (reached_as (λ R rest a. by_row (Statement a.0) a.1 (many_statements a.2.0 a.2.1)) p)
@@ -304,23 +359,36 @@ stopped_once : (s : List ℕ) (k k' : ℕ) (r r' : TextFault) → FaultAt s k (�
     → FaultAt s k' (λ R rest. Stop R rest k' r') → r ≡ r'
 unfolding bytes
 stopped_once s k k' r r' p q =
-    let (e, f) = pieces.same_reading bytes line_bytes refl (λ l ls. refl) WellFormed Formed (λ l ls f. f) line_once
-    (lines q.before) (lines p.before) q.rest p.rest (lines_formed q.before q.valid)
-    (lines_formed p.before p.valid) (sym q.is_written ∙ p.is_written)
-    (no_stop q.before p.before q.rest k' r' p.valid q.fault)
-    (no_stop p.before q.before p.rest k r q.valid p.fault) in
-    go (lines_injective q.before p.before e) f
+    go (one_goes_on (lines p.before) (lines q.before) p.rest q.rest (lines_formed p.before p.valid)
+    (lines_formed q.before q.valid) (sym p.is_written ∙ q.is_written))
   where
-    go : q.before ≡ p.before → q.rest ≡ p.rest → r ≡ r'
-    go same f =
+    go : GoesOn (lines p.before) p.rest (lines q.before) q.rest
+        ⊎ GoesFurther (lines q.before) q.rest (lines p.before) p.rest → r ≡ r'
+    go (inl ([], e, f)) =
+        let same : q.before ≡ p.before = lines_injective q.before p.before (e ∙ append-nil (lines p.before)) in
         let line : k' ≡ k = q.line ∙ ap (λ R. suc (length R.statements + length R.objections)) same ∙ sym p.line in
-        pieces.stop_once line_bytes WellFormed line_once (Row p.before k) (Spoiled k) p.rest (λ l t t'. row_once) r r'
-        p.fault (subst₃ (λ R rest n. Stop R rest n r') same f line q.fault)
+        stop_once p.fault (subst₃ (λ R rest n. Stop R rest n r') same (sym f) line q.fault)
+    go (inl (l ∷ more, e, f)) = absurd (no_stop p.before q.before p.rest q.rest l more k r q.valid e f p.fault)
+    go (inr (l, more, e, f)) = absurd (no_stop q.before p.before q.rest p.rest l more k' r' p.valid e f q.fault)
 
 -- a written text is ended by byte 10
+bytes_ended : (l : Line) (ls : List Line) → (b : List ℕ) × (bytes (l ∷ ls) ≡ b ++ (10 ∷ []))
+unfolding bytes
+bytes_ended l [] = let (b, e) = line_ended l in (b, append-nil (line_bytes l) ∙ e)
+bytes_ended l (m ∷ ls) =
+    let (b, e) = bytes_ended m ls in (
+      line_bytes l ++ b,
+      ap (λ bs. line_bytes l ++ bs) e
+          ∙ sym (append_assoc (line_bytes l) b (10 ∷ [])),
+    )
+
 pub lines_ended : (ls : List Line) → NotEnded (bytes ls) → ⊥
 unfolding bytes
-lines_ended = pieces.pieces_ended bytes line_bytes refl (λ l ls. refl) line_ended
+lines_ended [] (h, n) = omega arith
+lines_ended (l ∷ ls) (h, n) =
+    let (b, e) = bytes_ended l ls in
+    n (ap (λ bs. get_or bs (length bs - 1) 0) e ∙ get_or_at b 10 [] 0 (length (b ++ (10 ∷ [])) - 1)
+    (omega (arith, length-append b (10 ∷ []))))
 
 pub written_ended : (R : Register) → Valid R → NotEnded (written R) → ⊥
 written_ended R v n = lines_ended (lines R) n
@@ -328,22 +396,30 @@ written_ended R v n = lines_ended (lines R) n
 pub accepts_once : (s : List ℕ) (R R' : Register) → Accepts s R → Accepts s R' → R ≡ R'
 unfolding bytes
 accepts_once s R R' a b =
-    lines_injective R R' (pieces.same_whole bytes line_bytes refl (λ l ls. refl) WellFormed Formed (λ l ls f. f) line_once
-    line_not_empty (lines R) (lines R') (lines_formed R a.valid) (lines_formed R' b.valid)
-    (sym a.is_written ∙ b.is_written))
+    go (one_goes_on (lines R) (lines R') [] [] (lines_formed R a.valid) (lines_formed R' b.valid)
+    (append-nil (written R) ∙ sym a.is_written ∙ b.is_written ∙ sym (append-nil (written R'))))
+  where
+    go : GoesOn (lines R) [] (lines R') [] ⊎ GoesFurther (lines R') [] (lines R) [] → R ≡ R'
+    go (inl ([], e, f)) = lines_injective R R' (sym (e ∙ append-nil (lines R)))
+    go (inl (l ∷ more, e, f)) = absurd (not_at_end l more [] f)
+    go (inr (l, more, e, f)) = absurd (not_at_end l more [] f)
 
 pub not_both : (s : List ℕ) (R : Register) (r : TextFault) → Accepts s R → Refuses s r → ⊥
 unfolding bytes
 not_both s R r a p = by (cause s r p)
   where
+    at_end : (b : TextFault) (k : ℕ) (q : FaultAt s k (λ B rest. Stop B rest k b))
+        → GoesOn (lines q.before) q.rest (lines R) [] ⊎ GoesFurther (lines R) [] (lines q.before) q.rest → ⊥
+    at_end b k q (inl ([], e, f)) = omega (arith, ap length f, stop_inside q.fault)
+    at_end b k q (inl (l ∷ more, e, f)) = no_stop q.before R q.rest [] l more k b a.valid e f q.fault
+    at_end b k q (inr (l, more, e, f)) = not_at_end l more q.rest f
+
     by : {b : TextFault} → Cause s b → ⊥
     by (too_long h) = omega (arith, a.fits)
     by (unended h n) = written_ended R a.valid (subst NotEnded a.is_written n)
     by {b} (stopped k q) =
-        pieces.goes_on bytes line_bytes refl (λ l ls. refl) WellFormed Formed (λ l ls f. f) line_once line_not_empty
-        (lines q.before) (lines R) q.rest (lines_formed q.before q.valid) (lines_formed R a.valid)
-        (sym q.is_written ∙ a.is_written) (pieces.stop_inside line_bytes WellFormed line_once (Row q.before k) (Spoiled k)
-        q.rest line_not_empty b q.fault) (no_stop q.before R q.rest k b a.valid q.fault)
+        at_end b k q (one_goes_on (lines q.before) (lines R) q.rest [] (lines_formed q.before q.valid)
+        (lines_formed R a.valid) (sym q.is_written ∙ a.is_written ∙ sym (append-nil (written R))))
 
 pub refuses_once : (s : List ℕ) (r r' : TextFault) → Refuses s r → Refuses s r' → r ≡ r'
 refuses_once s r r' p q = go (cause s r p) (cause s r' q)

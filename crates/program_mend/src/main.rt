@@ -49,8 +49,7 @@ fn output(text: &[u8], room: &mut [u8], report: &mut [u8]) -> Sizes
 }
 
 // Writes the report, and closes the file that was made for it. Answers why not all of it is there. That is in doubt until the
-// file
-// is on its disk; std says nothing of a close that failed, so the system is asked before.
+// file is on its disk; std says nothing of a close that failed, so the system is asked before.
 fn write_report(to: Reported, report: &[u8], n: usize) -> io::Result<()>
     requires { n ≤ length report.now }
 {

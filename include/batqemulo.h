@@ -16,10 +16,10 @@
  * - No room may overlap another room or an input. Inputs are only read. Nothing else may write to
  *   an input or a room while a call runs.
  * - A room need not be set before a call, but for the old sheet and its totals in an update.
- * - A call on lists, or on a number by itself, takes less than 32 KiB of stack, a call on a text, or
- *   back from a catalogue, less than 72 KiB, a call for a reason or for a catalogue less than 80 KiB,
- *   a call that mends less than 128 KiB. A call for a line of argument goes as deep as the line is
- *   long and takes less than 256 KiB.
+ * - A call on lists, or on a number by itself, takes less than 32 KiB of stack, a call on a text,
+ *   or back from a catalogue, less than 72 KiB, a call for a reason or for a catalogue less than
+ *   80 KiB, a call that mends less than 128 KiB. A call for a line of argument goes as deep as the
+ *   line is long and takes less than 256 KiB.
  * - No call allocates, keeps anything from one call to the next or calls back, so calls may run in
  *   several threads at once.
  */

@@ -11,8 +11,8 @@ use Rattle.lists.specs.declared.ListsFault.TheVariants as lists
 use Rattle.answer.specs.Refusals.{refusal_number, refusal_place}
 use Rattle.answer.specs.declared.Refusal.{Refusal}
 use Rattle.answer.specs.declared.Refusal.TheVariants.{Text, Lists, Room, Asked, Turns, Sheet}
-use Rattle.answer.specs.declared.Answer.{Answer}
-use Rattle.answer.specs.declared.Answer.TheVariants.{Refused, Given}
+use Rattle.answer.specs.Answer.{Answer}
+use Rattle.std.specs.Prelude.{Ok, Err}
 use Rattle.answer.specs.declared.CAnswer.{CAnswer}
 use Rattle.answer.specs.InC.{InC}
 
@@ -46,12 +46,12 @@ refusal_above Sheet = omega arith
 
 module _ (P : Answer → Type 0) (c : CAnswer) where
   -- refusal 0: what is promised of the answer given is promised of `value`
-  pub in_c_given : InC P c → c.refusal ≡ 0 → P (Given c.value)
-  in_c_given (Given n, p, e) z = subst (λ k. P (Given k)) (sym (ap (λ (d : CAnswer). d.value) e)) p
-  in_c_given (Refused r, p, e) z = absurd (omega (arith, refusal_above r, z, ap (λ (d : CAnswer). d.refusal) e))
+  pub in_c_given : InC P c → c.refusal ≡ 0 → P (Ok c.value)
+  in_c_given (Ok n, p, e) z = subst (λ k. P (Ok k)) (sym (ap (λ (d : CAnswer). d.value) e)) p
+  in_c_given (Err r, p, e) z = absurd (omega (arith, refusal_above r, z, ap (λ (d : CAnswer). d.refusal) e))
 
   -- any other: it is the number of a refusal that is promised, and `value` is its place
-  pub in_c_refused : InC P c → (c.refusal ≡ 0 → ⊥) → (r : Refusal) × P (Refused r) × (c.refusal ≡ refusal_number r)
+  pub in_c_refused : InC P c → (c.refusal ≡ 0 → ⊥) → (r : Refusal) × P (Err r) × (c.refusal ≡ refusal_number r)
       × (c.value ≡ refusal_place r)
-  in_c_refused (Given n, p, e) z = absurd (z (ap (λ (d : CAnswer). d.refusal) e))
-  in_c_refused (Refused r, p, e) z = (r, p, ap (λ (d : CAnswer). d.refusal) e, ap (λ (d : CAnswer). d.value) e)
+  in_c_refused (Ok n, p, e) z = absurd (z (ap (λ (d : CAnswer). d.refusal) e))
+  in_c_refused (Err r, p, e) z = (r, p, ap (λ (d : CAnswer). d.refusal) e, ap (λ (d : CAnswer). d.value) e)

@@ -7,8 +7,8 @@ use Prim.Native.Nat.{ℕ, ◌≤◌, ◌<◌}
 use Rattle.answer.specs.declared.Refusal.{Refusal}
 use Rattle.answer.specs.declared.Refusal.TheVariants.{Text, Lists, Room, Asked, Turns, Sheet}
 use Rattle.answer.specs.Answer.{RefusedOn, GivenOn, OnInput, Promised, Asks}
-use Rattle.answer.specs.declared.Answer.{Answer}
-use Rattle.answer.specs.declared.Answer.TheVariants.{Refused, Given}
+use Rattle.answer.specs.Answer.{Answer}
+use Rattle.std.specs.Prelude.{Ok, Err}
 use Rattle.answer.proofs.Promises.{promised_unique, through, refused_exactly, Exactly, asks_once}
 use Rattle.answer.proofs.Promises.{asks_14, asks_15, asks_10}
 
@@ -32,8 +32,8 @@ module _ {Made : Type 0} {accepts : Made → Type 0} {refuses : Refusal → Type
   pub on_promised : {Rooms : Type 0} (later : Made → Refusal → Type 0) (gives : Made → ℕ → Rooms → Type 0) (m : Made)
       → accepts m → (rooms : Rooms) (a : Answer) (after : Rooms) → Promised (later m) (gives m) rooms a after
       → OnInput accepts refuses later gives rooms a after
-  on_promised later gives m t rooms (Refused r) after (p, q) = (inr (m, t, p), q)
-  on_promised later gives m t rooms (Given n) after p = (m, t, p)
+  on_promised later gives m t rooms (Err r) after (p, q) = (inr (m, t, p), q)
+  on_promised later gives m t rooms (Ok n) after p = (m, t, p)
 
   -- Nothing is refused where the input is accepted and nothing is refused later.
   pub on_apart : (later : Made → Refusal → Type 0) (r : Refusal) (m : Made) → RefusedOn accepts refuses later r → accepts m
@@ -67,12 +67,12 @@ module _ {Made : Type 0} {accepts : Made → Type 0} {refuses : Refusal → Type
 
       -- A refusal is given exactly when it is due; one that is none of the input's own, when it is due of what the input makes.
       pub on_refused : (rooms : Rooms) (a : Answer) (after : Rooms) → OnInput accepts refuses later gives rooms a after
-          → (r : Refusal) → (a ≡ Refused r) ↔ RefusedOn accepts refuses later r
+          → (r : Refusal) → (a ≡ Err r) ↔ RefusedOn accepts refuses later r
       on_refused = refused_exactly (RefusedOn accepts refuses later) (GivenOn accepts gives) on_once gives_apart
 
       pub on_exactly : (rooms : Rooms) (a : Answer) (after : Rooms) → OnInput accepts refuses later gives rooms a after
           → (r : Refusal) → ¬ refuses r → (due : Made → Type 0) → ((m : Made) → later m r ↔ due m)
-          → (a ≡ Refused r) ↔ ((m : Made) × accepts m × due m)
+          → (a ≡ Err r) ↔ ((m : Made) × accepts m × due m)
       on_exactly rooms a after p r n due e =
           through (on_refused rooms a after p r)
           (⊎_elim (λ q. absurd (n q)) (λ (m, t, q). (m, t, (e m).0 q)), λ (m, t, d). inr (m, t, (e m).1 d))
@@ -91,6 +91,6 @@ module _ {Made : Type 0} {accepts : Made → Type 0} {refuses : Refusal → Type
   }
     where
       due : (r : Refusal) → ¬ refuses r → (when : Made → Type 0) → ((m : Made) → Asks (there m) turns (short m) r ↔ when m)
-          → (a ≡ Refused r) ↔ ((m : Made) × accepts m × when m)
+          → (a ≡ Err r) ↔ ((m : Made) × accepts m × when m)
       due =
           on_exactly (λ m. Asks (there m) turns (short m)) (λ m. asks_once (there m) turns (short m)) gives fine rooms a after p

@@ -7,8 +7,8 @@ use Rattle.answer.specs.Refusals.{refusal_number}
 use Rattle.answer.specs.declared.Refusal.{Refusal}
 use Rattle.answer.specs.declared.Refusal.TheVariants.{Asked, Turns, Room}
 use Rattle.answer.specs.Answer.{Promised, Short, Asks}
-use Rattle.answer.specs.declared.Answer.{Answer}
-use Rattle.answer.specs.declared.Answer.TheVariants.{Refused, Given}
+use Rattle.answer.specs.Answer.{Answer}
+use Rattle.std.specs.Prelude.{Ok, Err}
 
 -- one after the other
 pub through : {A B C : Type 0} → A ↔ B → B ↔ C → A ↔ C
@@ -21,19 +21,19 @@ module _ {Rooms : Type 0} (refuses : Refusal → Type 0) (gives : ℕ → Rooms 
   pub promised_unique : ((n n' : ℕ) (after after' : Rooms) → gives n after → gives n' after' → (n ≡ n') × (after ≡ after'))
       → (rooms : Rooms) (a a' : Answer) (after after' : Rooms) → Promised refuses gives rooms a after
       → Promised refuses gives rooms a' after' → (a ≡ a') × (after ≡ after')
-  promised_unique same rooms (Refused r) (Refused r') after after' p q = (ap Refused (one r r' p.0 q.0), p.1 ∙ sym q.1)
-  promised_unique same rooms (Refused r) (Given n) after after' p q = absurd (apart r n after' p.0 q)
-  promised_unique same rooms (Given n) (Refused r) after after' p q = absurd (apart r n after q.0 p)
-  promised_unique same rooms (Given n) (Given n') after after' p q = let (e, f) = same n n' after after' p q in (ap Given e, f)
+  promised_unique same rooms (Err r) (Err r') after after' p q = (ap Err (one r r' p.0 q.0), p.1 ∙ sym q.1)
+  promised_unique same rooms (Err r) (Ok n) after after' p q = absurd (apart r n after' p.0 q)
+  promised_unique same rooms (Ok n) (Err r) after after' p q = absurd (apart r n after q.0 p)
+  promised_unique same rooms (Ok n) (Ok n') after after' p q = let (e, f) = same n n' after after' p q in (ap Ok e, f)
 
   -- a refusal is given exactly when it is due
   pub refused_exactly : (rooms : Rooms) (a : Answer) (after : Rooms) → Promised refuses gives rooms a after → (r : Refusal)
-      → (a ≡ Refused r) ↔ refuses r
+      → (a ≡ Err r) ↔ refuses r
   refused_exactly rooms a after p r = (λ e. (subst (λ b. Promised refuses gives rooms b after) e p).0, due a p)
     where
-      due : (a : Answer) → Promised refuses gives rooms a after → refuses r → a ≡ Refused r
-      due (Refused r') p q = ap Refused (one r' r p.0 q)
-      due (Given n) p q = absurd (apart r n after q p)
+      due : (a : Answer) → Promised refuses gives rooms a after → refuses r → a ≡ Err r
+      due (Err r') p q = ap Err (one r' r p.0 q)
+      due (Ok n) p q = absurd (apart r n after q p)
 
 -- refusals of different numbers are different
 pub number_clash : (r r' : Refusal) → (refusal_number r ≡ refusal_number r' → ⊥) → r ≡ r' → ⊥
@@ -41,9 +41,9 @@ number_clash r r' n e = n (ap refusal_number e)
 
 -- 14, 15 and 10 are given exactly when something holds
 pub record Exactly (asked turns room : Type 0) (a : Answer) : Type 0 where
-  pub fourteen : (a ≡ Refused Asked) ↔ asked
-  pub fifteen : (a ≡ Refused Turns) ↔ turns
-  pub ten : (a ≡ Refused Room) ↔ room
+  pub fourteen : (a ≡ Err Asked) ↔ asked
+  pub fifteen : (a ≡ Err Turns) ↔ turns
+  pub ten : (a ≡ Err Room) ↔ room
 
 pub short_once : (short : Type 0) (r r' : Refusal) → Short short r → Short short r' → r ≡ r'
 short_once short r r' p q = p.1 ∙ sym q.1

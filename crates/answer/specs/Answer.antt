@@ -1,16 +1,18 @@
 -- What every public call promises, whatever it is asked: it refuses, and leaves the rooms as found, or gives its answer.
-use Rattle.std.specs.Prelude.{◌≡◌, List, ◌++◌, ◌⊎◌, ℕ, ◌≤◌, ◌<◌, length, get_or, drop}
+use Rattle.std.specs.Prelude.{Result, Ok, Err, ◌≡◌, List, ◌++◌, ◌⊎◌, ℕ, ◌≤◌, ◌<◌, length, get_or, drop}
 use Rattle.answer.specs.declared.Refusal.{Refusal}
 use Rattle.answer.specs.declared.Refusal.TheVariants.{Room, Asked, Turns}
-use Rattle.answer.specs.declared.Answer.{Answer}
-use Rattle.answer.specs.declared.Answer.TheVariants.{Refused, Given}
+
+-- how many entries or bytes were written, or the answer itself; or what the call refuses
+abbrev pub Answer : Type 0
+Answer = Result ℕ Refusal
 
 -- "A refusal gives its number and place and leaves every lent room as found." `refuses` says which refusal is given, and
 -- `gives` what the answer is and what the rooms then hold.
 abbrev pub Promised : {Rooms : Type 0} → (refuses : Refusal → Type 0) → (gives : ℕ → Rooms → Type 0)
     → Rooms → Answer → Rooms → Type 0
-Promised refuses gives rooms (Refused r) after = refuses r × (after ≡ rooms)
-Promised refuses gives rooms (Given n) after = gives n after
+Promised refuses gives rooms (Err r) after = refuses r × (after ≡ rooms)
+Promised refuses gives rooms (Ok n) after = gives n after
 
 -- What every call on an input promises. The input is accepted as what it makes (a text as a register), or it is refused, and
 -- those refusals come first. Of what it makes, `later` says what is refused then, and `gives` what the answer is.

@@ -7,12 +7,8 @@
 use lists::ListsFault;
 use register::TextFault;
 
-// `Given` holds how many entries or bytes were written, or the answer itself.
-#[derive(Clone, Copy)]
-pub enum Answer {
-    Refused(Refusal),
-    Given(u32),
-}
+// How many entries or bytes were written, or the answer itself; or what the call refuses.
+pub type Answer = Result<u32, Refusal>;
 
 // The answer as C gets it: `refusal` is 0 where the call is accepted, else 01's number with its place as `value`.
 #[repr(C)]

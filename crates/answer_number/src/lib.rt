@@ -1,5 +1,5 @@
 // An answer in numbers: the number and the place of a refusal, and the two numbers that C gets. The functions that C calls are in
-// `batqemulo_c`.
+// `batqemulo_c`. None is a `From`, which would stand beside the types: a crate with a bare noun has no function (tests/house.sh).
 #![tactic(auto)]
 
 ghost use Rattle.std.specs.Prelude.{◌≡◌};
@@ -33,15 +33,14 @@ fn text_fault_place(fault: TextFault) -> u32
     ensures { result ≡ text_fault_place fault }
 {
     match fault {
-        TextFault::TooLong => 0,
-        TextFault::Unended => 0,
-        TextFault::Spoiled(line) => line,
-        TextFault::Late(line) => line,
-        TextFault::Issued(line) => line,
-        TextFault::Statements(line) => line,
-        TextFault::Unknown(line) => line,
-        TextFault::Repeated(line) => line,
-        TextFault::Objections(line) => line,
+        TextFault::TooLong | TextFault::Unended => 0,
+        TextFault::Spoiled(line)
+        | TextFault::Late(line)
+        | TextFault::Issued(line)
+        | TextFault::Statements(line)
+        | TextFault::Unknown(line)
+        | TextFault::Repeated(line)
+        | TextFault::Objections(line) => line,
     }
 }
 
@@ -63,12 +62,8 @@ fn lists_fault_place(fault: ListsFault) -> u32
     ensures { result ≡ lists_fault_place fault }
 {
     match fault {
-        ListsFault::Unequal => 0,
-        ListsFault::Statements => 0,
-        ListsFault::Objections => 0,
-        ListsFault::Mark(entry) => entry,
-        ListsFault::Place(entry) => entry,
-        ListsFault::Repeated(entry) => entry,
+        ListsFault::Unequal | ListsFault::Statements | ListsFault::Objections => 0,
+        ListsFault::Mark(entry) | ListsFault::Place(entry) | ListsFault::Repeated(entry) => entry,
     }
 }
 
@@ -91,10 +86,7 @@ pub fn refusal_place(refusal: Refusal) -> u32
     match refusal {
         Refusal::Text(fault) => text_fault_place(fault),
         Refusal::Lists(fault) => lists_fault_place(fault),
-        Refusal::Room => 0,
-        Refusal::Asked => 0,
-        Refusal::Turns => 0,
-        Refusal::Sheet => 0,
+        Refusal::Room | Refusal::Asked | Refusal::Turns | Refusal::Sheet => 0,
     }
 }
 
@@ -102,10 +94,10 @@ pub fn in_c(answer: Answer) -> CAnswer
     ensures { result ≡ in_c answer }
 {
     match answer {
-        Answer::Refused(refused) => CAnswer {
+        Err(refused) => CAnswer {
             refusal: refusal_number(refused),
             value: refusal_place(refused),
         },
-        Answer::Given(value) => CAnswer { refusal: 0, value },
+        Ok(value) => CAnswer { refusal: 0, value },
     }
 }

@@ -8,13 +8,13 @@ use lib.ListN.{get_or, length, drop}
 use Rattle.game.specs.Book.{book_of}
 use Rattle.game.specs.Label.{Verdict, is_open, stands, falls, Least}
 use Rattle.game.specs.Account.{label_number, length_number}
-use Rattle.label_solve.specs.Labelled.{Told}
+use Rattle.lists.specs.Handed.{Handed}
+use Rattle.label_solve.specs.Labelled.{Labelled, Told}
 use Rattle.game.specs.Argument.{Argument, ends, goes_on}
 use Rattle.game.proofs.Argument.{turns, last, line, line_unique, next}
 use Rattle.game.proofs.HandedBook.{objects_entry}
 use Rattle.game.proofs.Verdict.{verdict, means_verdict, means_unique}
 use Rattle.game.proofs.Agree.{verdict_agrees}
-use Rattle.label_solve.specs.Labelled.{ListsLabelled}
 use Rattle.argument_find.specs.ArgumentRoom.{Turns, Other, ArgumentIn, ObjectsWith}
 use Rattle.game.specs.Argument as game
 
@@ -54,11 +54,12 @@ not_open is_open n label other e z a o f = z e
 not_open (stands k) n label other e z a (p, q) f = omega (arith, p a, f)
 not_open (falls k) n label other e z a (p, q) f = omega (arith, q a, f)
 
-module _ (marks objectors targets labels lengths : List ℕ) (s : ListsLabelled marks objectors targets labels lengths) (x n : ℕ)
-    (hx : x < length marks) (tn : Turns labels lengths x n) where
+module _ (marks objectors targets labels lengths : List ℕ) (handed : Handed marks objectors targets)
+    (labelled : Labelled (book_of marks objectors targets) labels lengths) (x n : ℕ) (hx : x < length marks)
+    (tn : Turns labels lengths x n) where
   told : Told (book_of marks objectors targets) x (get_or labels x 0) (get_or lengths x 0)
   unfolding book_of
-  told = s.labelled.told x hx
+  told = labelled.told x hx
 
   told_turns : n ≡ turns told.verdict
   told_turns = turns_told labels lengths x n told.verdict told.label_is told.length_is tn
@@ -101,7 +102,7 @@ module _ (marks objectors targets labels lengths : List ℕ) (s : ListsLabelled 
   module _ (other : ℕ) (ot : Other (get_or labels x 0) other) (some : n ≡ 0 → ⊥) where
     told_of : (y : ℕ) → y < length marks → Told (book_of marks objectors targets) y (get_or labels y 0) (get_or lengths y 0)
     unfolding book_of
-    told_of y h = s.labelled.told y h
+    told_of y h = labelled.told y h
 
     -- there is an objector to go on with
     pub onward_there : (y : ℕ) × ObjectsWith objectors targets labels lengths x other (n - 1) y
@@ -120,7 +121,7 @@ module _ (marks objectors targets labels lengths : List ℕ) (s : ListsLabelled 
 
     module _ (y : ℕ) (least : Least (ObjectsWith objectors targets labels lengths x other (n - 1)) y) where
       pub onward_listed : y < length marks
-      onward_listed = omega (arith, s.handed.order.objector least.0.0.0 least.0.0.1, least.0.0.3)
+      onward_listed = omega (arith, handed.order.objector least.0.0.0 least.0.0.1, least.0.0.3)
 
       pub onward_turns : Turns labels lengths y (n - 1)
       onward_turns = (

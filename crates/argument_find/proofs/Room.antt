@@ -6,7 +6,7 @@ use native.Mathlib.Nat.{not-suc-le-zero}
 use native.Mathlib.Omega.{arith}
 use lib.ListN.{length, set, drop, take, length-take, length-drop, length-set, drop_of_length-le}
 use lib.Seq.{take-length}
-use borrow.Rule.Slice.PartMut.{put_mid, same_len_mid}
+use borrow.Rule.Slice.PartMut.{put_mid}
 
 pub room_first : (room : List ℕ) (x : ℕ) → 0 < length room → set room 0 x ≡ (x ∷ []) ++ drop 1 room
 room_first [] x h = absurd (not-suc-le-zero h)
@@ -25,8 +25,3 @@ room_rest (a ∷ r) x l rest h e =
     let z : drop (length r) r ≡ [] = drop_of_length-le r {i = length r} (omega arith) in
     ap (λ t. x ∷ t) (ap (λ (i : ℕ). rest ++ drop i r) k ∙ ap (λ (t : List ℕ). rest ++ t) z ∙ append-nil rest ∙ e
     ∙ ap (λ (i : ℕ). l ++ drop (length l) (take i r)) k ∙ ap (λ (t : List ℕ). l ++ drop (length l) t) (take-length r))
-
-pub rest_kept : (room : List ℕ) (x : ℕ) (rest : List ℕ) → length rest ≡ length
-    (take (length (set room 0 x) - 1) (drop 1 (set room 0 x)))
-    → length (put_mid 1 (length (set room 0 x) - 1) (set room 0 x) rest) ≡ length room
-rest_kept room x rest e = same_len_mid 1 (length (set room 0 x) - 1) (set room 0 x) rest e ∙ length-set room 0 x

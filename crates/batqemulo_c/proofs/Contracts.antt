@@ -3,7 +3,7 @@
 -- answer among it, is proved of the contracts. What the promises say is left to `promises`.
 use mathlib.Core.Path.{refl, ◌≡◌}
 use Rattle.answer.specs.InC.{InC}
-use Rattle.answer.specs.declared.Answer.{Answer}
+use Rattle.answer.specs.Answer.{Answer}
 use Rattle.answer.specs.declared.CAnswer.{CAnswer}
 use Rattle.promises.specs.LabelCalls.{PairsLabels, PairsLengths, MovesLabels, MovesLengths, TextLabels, TextLengths}
 use Rattle.promises.specs.KindCalls.{PairsKinds}

@@ -6,7 +6,7 @@ ghost use Rattle.std.specs.Prelude.{◌≡◌};
 ghost use Rattle.label_solve.specs.Labelled.{Solved};
 ghost use Rattle.lists.specs.Refuses.{Lists};
 
-use lists_check::Checked;
+use lists::Pairs;
 
 // Labels and lengths. Answers 1 where it solved and 0 where it did not.
 #[unsafe(no_mangle)]
@@ -29,10 +29,10 @@ pub extern "C" fn bench_solver_label(
     if objectors.len() > 4096 {
         return 0;
     }
-    if lists_check::bad_mark(marks) < marks.len() {
+    if lists_check::bad_mark(marks).is_some() {
         return 0;
     }
-    if lists_check::bad_place(marks, objectors, targets) < objectors.len() {
+    if lists_check::bad_place(marks, objectors, targets).is_some() {
         return 0;
     }
     if labels.len() < marks.len() {
@@ -41,7 +41,12 @@ pub extern "C" fn bench_solver_label(
     if lengths.len() < marks.len() {
         return 0;
     }
-    label_solve::solve(marks, objectors, targets, labels, lengths);
+    let pairs = Pairs {
+        marks,
+        objectors,
+        targets,
+    };
+    label_solve::solve(&pairs, labels, lengths);
     1
 }
 
@@ -50,8 +55,8 @@ pub extern "C" fn bench_solver_label(
 pub extern "C" fn bench_solver_check(marks: &[u8], objectors: &[u32], targets: &[u32]) -> u32
     ensures { result ≡ 1 → Lists marks.now objectors.now targets.now }
 {
-    if let Checked::Refused(_) = lists_check::check(marks, objectors, targets) {
-        return 0;
+    match lists_check::check(marks, objectors, targets) {
+        Ok(_) => 1,
+        Err(_) => 0,
     }
-    1
 }

@@ -1,2 +1,1 @@
-pub mod NumberGiven
-pub mod PlaceGiven
+pub mod LineLent

@@ -2,7 +2,7 @@
 use Rattle.std.specs.Prelude.{List, ℕ}
 use Rattle.register.specs.Register.{Register}
 use Rattle.answer.specs.Answer.{Promised}
-use Rattle.answer.specs.declared.Answer.{Answer}
+use Rattle.answer.specs.Answer.{Answer}
 use Rattle.promises.specs.ArgumentCalls.{TextArgumentRefused, TextArgumentIn}
 
 -- Not for callers: the same of one register.

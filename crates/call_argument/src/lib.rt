@@ -3,16 +3,16 @@
 // all of it. How a line is found is left to `argument_find`, and reading and labels to the crates below.
 #![tactic(auto)]
 
-ghost use Rattle.std.specs.Prelude.{◌≤◌, ℕ, ◌<◌, length, get_or, ◌≡◌};
-ghost use Rattle.register_solve.specs.SolvedText.{Ready};
+ghost use Rattle.std.specs.Prelude.{ℕ, ◌<◌, ◌≡◌, length, get_or, map};
+ghost use Rattle.register_solve.specs.SolvedAs.{ReadyAs};
 ghost use Rattle.promises.specs.ArgumentCalls.{TextArgument, PairsArgument};
 ghost use Rattle.register.specs.Register.{Register};
-ghost use Rattle.answer.specs.Answer.{Begins};
 ghost use Rattle.call_argument.specs.ArgumentAnswer.{ArgumentWritten};
 
 use answer::{Answer, Refusal};
-use lists_check::Checked;
-use register_read::Reading;
+use argument_find::argument;
+use label_solve::LabelledPairs;
+use register_solve::{LabelRooms, LabelledRegister, solve_register};
 
 // The line of argument of the statement at a place, by places.
 pub fn pairs_line(
@@ -25,98 +25,57 @@ pub fn pairs_line(
     ensures { PairsArgument marks.now objectors.now targets.now place line.old result
         line.new }
 {
-    let checked = lists_check::check(marks, objectors, targets);
-    if let Checked::Refused(fault) = checked {
-        return Answer::Refused(Refusal::Lists(fault));
-    }
-    let x = pair_chain::place(place);
+    let pairs = lists_check::check(marks, objectors, targets).map_err(Refusal::Lists)?;
+    let x = place as usize;
     if x >= marks.len() {
-        return Answer::Refused(Refusal::Asked);
+        return Err(Refusal::Asked);
     }
     let mut labels = [0u8; 1024];
     let mut lengths = [0u16; 1024];
-    label_solve::solve(marks, objectors, targets, &mut labels, &mut lengths);
-    let n = argument_find::argument(marks, objectors, targets, &labels, &lengths, x, line);
+    label_solve::solve(&pairs, &mut labels, &mut lengths);
+    let labelled = LabelledPairs {
+        pairs,
+        labels: &labels,
+        lengths: &lengths,
+    };
+    let n = argument(&labelled, x, line);
     if line.len() < n {
-        return Answer::Refused(Refusal::Room);
+        return Err(Refusal::Room);
     }
-    Answer::Given(n as u32)
+    Ok(n as u32)
 }
 
-// Puts the number of each of the n places that a line begins with in its stead.
-fn renumber(numbers: &[u32], n: usize, line: &mut [u32])
-    requires { (n ≤ length line.old) × ((k : ℕ) → k < n → get_or line.old k 0 < length numbers.now) }
-    ensures { Begins n (λ k e. e ≡ get_or numbers.now (get_or line.old k 0) 0) line.old
-        line.new }
+// Puts in the stead of each place the number of its statement.
+fn renumber(numbers: &[u32], line: &mut [u32])
+    requires { (k : ℕ) → k < length line.old → get_or line.old k 0 < length numbers.now }
+    ensures { line.new ≡ map (λ x. get_or numbers.now x 0) line.old }
 {
-    let mut k = 0;
-    // The first k entries of the line of argument are numbers, and the rest of the room is as it was.
-    while k < n {
-        let x = pair_chain::place(line[k]);
-        line[k] = numbers[x];
-        k += 1;
+    // The entries passed are numbers, and those to come are places still.
+    for entry in line.iter_mut() {
+        *entry = numbers[*entry as usize];
     }
 }
 
 // Writes the line of argument in a register that is labelled, if the number is there and there is room for all of it.
-fn write_argument(
-    numbers: &[u32],
-    marks: &[u8],
-    objectors: &[u32],
-    targets: &[u32],
-    labels: &[u8],
-    lengths: &[u16],
-    number: u32,
-    line: &mut [u32],
-) -> Answer
-    requires { (R : Register) × Ready R numbers.now marks.now objectors.now targets.now labels.now lengths.now }
-    ensures { (R : Register) → Ready R numbers.now marks.now objectors.now
-        targets.now labels.now lengths.now
+fn write_argument(register: &LabelledRegister, number: u32, line: &mut [u32]) -> Answer
+    requires { (R : Register) × ReadyAs R register.now }
+    ensures { (R : Register) → ReadyAs R register.now
         → ArgumentWritten R number line.old result line.new }
 {
-    let statements = numbers.len();
-    let x = register_index::find(numbers, statements, number);
-    if x >= statements {
-        return Answer::Refused(Refusal::Asked);
-    }
-    let n = argument_find::argument(marks, objectors, targets, labels, lengths, x, line);
+    let x = register_index::find(register.numbers, number).ok_or(Refusal::Asked)?;
+    let n = argument(&register.labelled, x, line);
     if line.len() < n {
-        return Answer::Refused(Refusal::Room);
+        return Err(Refusal::Room);
     }
-    renumber(numbers, n, line);
-    Answer::Given(n as u32)
+    renumber(register.numbers, &mut line[..n]);
+    Ok(n as u32)
 }
 
 // The line of argument of the statement of a number, by numbers.
 pub fn text_line(text: &[u8], number: u32, line: &mut [u32]) -> Answer
     ensures { TextArgument text.now number line.old result line.new }
 {
-    let mut numbers = [0u32; 1024];
-    let mut marks = [0u8; 1024];
-    let mut objectors = [0u32; 4096];
-    let mut targets = [0u32; 4096];
-    let mut labels = [0u8; 1024];
-    let mut lengths = [0u16; 1024];
-    let reading = register_solve::solve_text(
-        text,
-        &mut numbers,
-        &mut marks,
-        &mut objectors,
-        &mut targets,
-        &mut labels,
-        &mut lengths,
-    );
-    match reading {
-        Reading::Refused(fault) => Answer::Refused(Refusal::Text(fault)),
-        Reading::Whole(n, m) => write_argument(
-            &numbers[..n],
-            &marks[..n],
-            &objectors[..m],
-            &targets[..m],
-            &labels,
-            &lengths,
-            number,
-            line,
-        ),
-    }
+    let mut rooms = LabelRooms::empty();
+    let register = solve_register(text, &mut rooms).map_err(Refusal::Text)?;
+    write_argument(&register, number, line)
 }

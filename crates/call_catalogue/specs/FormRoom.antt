@@ -1,7 +1,7 @@
 -- Not for callers of the product: whether there is room for the bytes of a form, and what is promised of them.
 use Rattle.std.specs.Prelude.{Bool, true, false, List, ℕ, ◌≤◌, ◌<◌, length}
 use Rattle.answer.specs.Answer.{Promised, Short, Written}
-use Rattle.answer.specs.declared.Answer.{Answer}
+use Rattle.answer.specs.Answer.{Answer}
 
 -- Not for callers: whether so many bytes are room for the form.
 abbrev pub FormFits : (form : List ℕ) → (room : ℕ) → Bool → Type 0

@@ -2,7 +2,7 @@
 use Rattle.std.specs.Prelude.{ℕ}
 use Rattle.register.specs.Register.{Register, Issued}
 use Rattle.answer.specs.Answer.{Promised, Asks}
-use Rattle.answer.specs.declared.Answer.{Answer}
+use Rattle.answer.specs.Answer.{Answer}
 use Rattle.promises.specs.ExerciseCalls.{TextExerciseIn}
 
 abbrev pub ExerciseAnswered : Register → (number turns : ℕ) → Answer → Type 0

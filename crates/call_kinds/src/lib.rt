@@ -3,42 +3,29 @@
 #![tactic(auto)]
 
 ghost use Rattle.std.specs.Prelude.{◌≤◌, length};
-ghost use Rattle.game.specs.Book.{book_of};
 ghost use Rattle.game.specs.Account.{account_number, account_length};
-ghost use Rattle.lists.specs.Handed.{Handed};
-ghost use Rattle.label_solve.specs.Labelled.{Labelled};
+ghost use Rattle.label_solve.specs.AreLabelled.{AreLabelled};
 ghost use Rattle.promises.specs.KindCalls.{Objections, PairsKinds};
 
 use answer::{Answer, Refusal};
-use label_kind::{kind_length, kind_number};
-use lists_check::Checked;
+use label_kind::{kind_at, kind_length, kind_number};
+use label_solve::LabelledPairs;
 
-// Writes the kind and the length of each objection, in the order of the lists. `turns` holds the statements' lengths.
-fn write_kinds(
-    marks: &[u8],
-    objectors: &[u32],
-    targets: &[u32],
-    labels: &[u8],
-    turns: &[u16],
-    kinds: &mut [u8],
-    lengths: &mut [u16],
-)
-    requires handed { Handed marks.now objectors.now targets.now }
-    requires marks_in_bounds { (length marks.now ≤ length labels.now) × (length marks.now ≤ length turns.now) }
-    requires objectors_in_bounds { (length objectors.now ≤ length kinds.old) × (length objectors.now ≤ length lengths.old) }
-    requires labelled { Labelled (book_of marks.now objectors.now targets.now) labels.now turns.now }
-    ensures { Objections marks.now objectors.now targets.now account_number
-        (length objectors.now) kinds.old kinds.new
-        × Objections marks.now objectors.now targets.now account_length
-        (length objectors.now) lengths.old lengths.new }
+// Writes the kind and the length of each objection, in the order of the lists.
+fn write_kinds(labelled: &LabelledPairs, kinds: &mut [u8], lengths: &mut [u16])
+    requires labelled { AreLabelled labelled.now }
+    requires rooms { (length labelled.now.pairs.objectors.now ≤ length kinds.old)
+        × (length labelled.now.pairs.objectors.now ≤ length lengths.old) }
+    ensures { Objections labelled.now.pairs.marks.now labelled.now.pairs.objectors.now labelled.now.pairs.targets.now
+        account_number (length labelled.now.pairs.objectors.now) kinds.old kinds.new
+        × Objections labelled.now.pairs.marks.now labelled.now.pairs.objectors.now labelled.now.pairs.targets.now
+        account_length (length labelled.now.pairs.objectors.now) lengths.old lengths.new }
 {
-    let mut k = 0;
     // The rooms begin with the kinds and lengths of the first k objections, and beyond them are as they were.
-    while k < objectors.len() {
-        let kind = label_kind::kind_at(marks, objectors, targets, labels, turns, k);
+    for k in 0..labelled.pairs.objectors.len() {
+        let kind = kind_at(labelled, k);
         kinds[k] = kind_number(kind);
         lengths[k] = kind_length(kind);
-        k += 1;
     }
 }
 
@@ -53,20 +40,22 @@ pub fn pairs_kinds(
     ensures { PairsKinds marks.now objectors.now targets.now
         (kinds.old, lengths.old) result (kinds.new, lengths.new) }
 {
-    let checked = lists_check::check(marks, objectors, targets);
-    if let Checked::Refused(fault) = checked {
-        return Answer::Refused(Refusal::Lists(fault));
-    }
+    let pairs = lists_check::check(marks, objectors, targets).map_err(Refusal::Lists)?;
     let n = objectors.len();
     if kinds.len() < n {
-        return Answer::Refused(Refusal::Room);
+        return Err(Refusal::Room);
     }
     if lengths.len() < n {
-        return Answer::Refused(Refusal::Room);
+        return Err(Refusal::Room);
     }
     let mut labels = [0u8; 1024];
     let mut turns = [0u16; 1024];
-    label_solve::solve(marks, objectors, targets, &mut labels, &mut turns);
-    write_kinds(marks, objectors, targets, &labels, &turns, kinds, lengths);
-    Answer::Given(n as u32)
+    label_solve::solve(&pairs, &mut labels, &mut turns);
+    let labelled = LabelledPairs {
+        pairs,
+        labels: &labels,
+        lengths: &turns,
+    };
+    write_kinds(&labelled, kinds, lengths);
+    Ok(n as u32)
 }

@@ -3,7 +3,7 @@ use Rattle.std.specs.Prelude.{Bool, true, false, List, ℕ, ◌≤◌, ◌<◌, 
 use Rattle.register.specs.Register.{Register}
 use Rattle.listing.specs.Listing.{IsListing}
 use Rattle.answer.specs.Answer.{Promised, Short}
-use Rattle.answer.specs.declared.Answer.{Answer}
+use Rattle.answer.specs.Answer.{Answer}
 use Rattle.promises.specs.ListingCalls.{ListingShort, ListingIn}
 
 -- Not for callers: no listing of the register is longer than the longest; whether so many bytes are room for it.

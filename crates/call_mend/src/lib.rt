@@ -12,37 +12,36 @@ ghost use Rattle.promises.specs.MendCalls.{TextMend};
 ghost use Rattle.call_mend.specs.MendedLists.{MendedLists, MendWritten};
 
 use answer::{Answer, Refusal};
+use lists::NumberedPairs;
+use mend_text::MendedText;
 use register::TextFault;
+use register_read::RegisterRooms;
 
-// Writes the register that lists hold, and the report of the fates, if there is room for both.
+// Writes what a text is mended to, the register and the report of the fates, if there is room for both.
 fn write_mended(
-    numbers: &[u32],
-    marks: &[u8],
-    objectors: &[u32],
-    targets: &[u32],
-    fates: &[u8],
+    mended: &MendedText,
     room: &mut [u8],
     report: &mut [u8],
     report_written: &mut u32,
 ) -> Answer
-    requires { (ls : List TextLine) × MendedLists ls numbers.now marks.now objectors.now targets.now fates.now }
-    ensures { (ls : List TextLine) → MendedLists ls numbers.now marks.now objectors.now
-        targets.now fates.now → MendWritten ls
+    requires { (ls : List TextLine) × MendedLists ls mended.now }
+    ensures { (ls : List TextLine) → MendedLists ls mended.now → MendWritten ls
         (room.old, report.old, report_written.old) result
         (room.new, report.new, report_written.new) }
 {
-    let size = register_write::register_size(numbers, objectors, targets);
+    let NumberedPairs { numbers, pairs } = mended.register;
+    let size = register_write::register_size(numbers, pairs.objectors, pairs.targets);
     if room.len() < size {
-        return Answer::Refused(Refusal::Room);
+        return Err(Refusal::Room);
     }
-    let report_size = mend_report::report_size(fates);
+    let report_size = mend_report::report_size(mended.fates);
     if report.len() < report_size {
-        return Answer::Refused(Refusal::Room);
+        return Err(Refusal::Room);
     }
-    register_write::put_register(room, numbers, marks, objectors, targets);
-    mend_report::put_report(report, fates);
+    register_write::put_register(room, &mended.register);
+    mend_report::put_report(report, mended.fates);
     *report_written = report_size as u32;
-    Answer::Given(size as u32)
+    Ok(size as u32)
 }
 
 // Mends a text.
@@ -56,32 +55,10 @@ pub fn text_mend(
         (room.new, report.new, report_written.new) }
 {
     if text.len() > 65535 {
-        return Answer::Refused(Refusal::Text(TextFault::TooLong));
+        return Err(Refusal::Text(TextFault::TooLong));
     }
-    let mut numbers = [0u32; 1024];
-    let mut marks = [0u8; 1024];
-    let mut objectors = [0u32; 4096];
-    let mut targets = [0u32; 4096];
-    let mut fates = [0u8; 65535];
-    let settled = mend_text::settle_text(
-        text,
-        &mut numbers,
-        &mut marks,
-        &mut objectors,
-        &mut targets,
-        &mut fates,
-    );
-    let n = settled.statements;
-    let m = settled.objections;
-    let lines = settled.lines;
-    write_mended(
-        &numbers[..n],
-        &marks[..n],
-        &objectors[..m],
-        &targets[..m],
-        &fates[..lines],
-        room,
-        report,
-        report_written,
-    )
+    let mut rooms = RegisterRooms::empty();
+    let mut fates = [0; 65535];
+    let mended = mend_text::settle_rooms(text, &mut rooms, &mut fates);
+    write_mended(&mended, room, report, report_written)
 }

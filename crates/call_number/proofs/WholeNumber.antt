@@ -10,11 +10,10 @@ use lib.Seq.{drop-length}
 use Rattle.register.specs.Number.{IsNumber, number_bytes}
 use Rattle.register.specs.declared.TextFault.TheVariants.{Spoiled}
 use Rattle.register_number.specs.NumberReading.{NumberAt}
-use Rattle.register_number.specs.declared.NumberRead.TheVariants.{Value, NoNumber}
 use Rattle.room_write.specs.Writing.{Put}
 use Rattle.room_write.proofs.Writing.{put_start}
 use Rattle.answer.specs.declared.Refusal.TheVariants.{Text, Room}
-use Rattle.answer.specs.declared.Answer.TheVariants.{Refused, Given}
+use Rattle.std.specs.Prelude.{Some, None, Ok, Err}
 use Rattle.promises.specs.NumberCalls.{NumberCode, NumberText}
 
 module _ (written : List ℕ) where
@@ -22,12 +21,12 @@ module _ (written : List ℕ) where
   alone : (n : ℕ) → written ≡ number_bytes n → written ≡ number_bytes n ++ []
   alone n e = e ∙ sym (append-nil (number_bytes n))
 
-  pub not_read : NumberAt written 0 NoNumber → NumberCode written (Refused (Text (Spoiled 0)))
+  pub not_read : NumberAt written 0 None → NumberCode written (Err (Text (Spoiled 0)))
   not_read none = (inl ((λ n (h, e). none n [] h tt (alone n e)), refl), refl)
 
-  module _ (v end : ℕ) (read : NumberAt written 0 (Value v end)) where
+  module _ (v end : ℕ) (read : NumberAt written 0 (Some (v, end))) where
     -- something stands behind the number
-    pub more_behind : (end ≡ length written → ⊥) → NumberCode written (Refused (Text (Spoiled 0)))
+    pub more_behind : (end ≡ length written → ⊥) → NumberCode written (Err (Text (Spoiled 0)))
     more_behind other = (
       inl (
         (λ n (h, e). let q : n ≡ v = read.4 n [] h tt (alone n e) in other (omega (
@@ -43,20 +42,20 @@ module _ (written : List ℕ) where
       refl,
     )
 
-    pub all_read : end ≡ length written → NumberCode written (Given v)
+    pub all_read : end ≡ length written → NumberCode written (Ok v)
     all_read e =
         let rest : drop end written ≡ [] = rw e (drop-length written) in
         (v, (read.0, read.3 ∙ ap (λ u. number_bytes v ++ u) rest ∙ append-nil (number_bytes v)), refl)
 
 module _ (number : ℕ) (room : List ℕ) where
-  pub nobodys : ¬ IsNumber number → NumberText number room (Refused (Text (Spoiled 0))) room
+  pub nobodys : ¬ IsNumber number → NumberText number room (Err (Text (Spoiled 0))) room
   nobodys none = (inl (none, refl), refl)
 
-  pub too_short : IsNumber number → length room < length (number_bytes number) → NumberText number room (Refused Room) room
+  pub too_short : IsNumber number → length room < length (number_bytes number) → NumberText number room (Err Room) room
   too_short h l = (inr (number_bytes number, (h, refl), (l, refl)), refl)
 
   pub put_whole : IsNumber number → (n end : ℕ) (after : List ℕ) → n ≡ length (number_bytes number) → n ≤ length room
-      → Put room 0 (number_bytes number) end after → NumberText number room (Given n) after
+      → Put room 0 (number_bytes number) end after → NumberText number room (Ok n) after
   put_whole h n end after e f put =
       let (ends, is) = put_start room (number_bytes number) put in
       (number_bytes number, (h, refl), (e, omega (arith, e, f), is))

@@ -7,32 +7,30 @@ ghost use Rattle.promises.specs.NumberCalls.{NumberCode, NumberText};
 
 use answer::{Answer, Refusal};
 use register::TextFault;
-use register_number::NumberRead;
 
 // The code of what is written, which is a number and nothing else.
 pub fn number_code(written: &[u8]) -> Answer
     ensures { NumberCode written.now result }
 {
-    let NumberRead::Value(number, end) = register_number::number_at(written, 0) else {
-        return Answer::Refused(Refusal::Text(TextFault::Spoiled(0)));
-    };
+    let spoiled = Refusal::Text(TextFault::Spoiled(0));
+    let (number, end) = register_number::number_at(written, 0).ok_or(spoiled)?;
     if end != written.len() {
-        return Answer::Refused(Refusal::Text(TextFault::Spoiled(0)));
+        return Err(spoiled);
     }
-    Answer::Given(number)
+    Ok(number)
 }
 
 // How the number of a code is written.
 pub fn number_text(number: u32, room: &mut [u8]) -> Answer
     ensures { NumberText number room.old result room.new }
 {
-    if register_number::is_number(number) {
-        let size = register_number::number_size(number);
-        if room.len() < size {
-            return Answer::Refused(Refusal::Room);
-        }
-        register_number::put_number(room, 0, number);
-        return Answer::Given(size as u32);
+    if !register_number::is_number(number) {
+        return Err(Refusal::Text(TextFault::Spoiled(0)));
     }
-    Answer::Refused(Refusal::Text(TextFault::Spoiled(0)))
+    let size = register_number::number_size(number);
+    if room.len() < size {
+        return Err(Refusal::Room);
+    }
+    register_number::put_number(room, 0, number);
+    Ok(size as u32)
 }

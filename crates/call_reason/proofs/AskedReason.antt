@@ -1,39 +1,42 @@
 -- From the rows of one statement to what is promised of the register.
 use mathlib.Core.List.{List}
 use mathlib.Core.Logic.{inr}
-use mathlib.Core.Path.{◌≡◌}
+use mathlib.Core.Path.{ap, sym, ◌≡◌, ◌∙◌}
 use Prim.Native.Nat.{ℕ, ◌<◌}
 use native.Mathlib.Omega.{arith}
-use lib.ListN.{get_or, length}
-use Rattle.game.specs.Questions.{Found}
+use lib.ListN.{get_or, length, take}
+use Rattle.std.proofs.lemmas.List.{get_or-take}
 use Rattle.reason_find.specs.Ticks.{Chosen}
 use Rattle.register.specs.Register.{Register, Places}
-use Rattle.answer.specs.declared.Answer.{Answer}
-use Rattle.answer.specs.declared.Answer.TheVariants.{Refused, Given}
-use Rattle.register_solve.specs.SolvedText.{Ready}
-use Rattle.register_solve.proofs.AskedPlace.{place}
+use Rattle.answer.specs.Answer.{Answer}
+use Rattle.std.specs.Prelude.{Ok, Err}
+use Rattle.register_solve.specs.SolvedAs.{ReadyAs}
+use Rattle.register_solve.specs.declared.labelled_register.LabelledRegister.{LabelledRegister}
 use Rattle.reason.specs.Reasons.{IsReason}
 use Rattle.call_reason.specs.ReasonRows.{RowsWritten, ReasonWritten, reason_rows}
 use Rattle.call_reason.proofs.ReadyReason.{ready_reason}
 
-pub reason_written : (R : Register) (nums marks objectors targets labels lengths : List ℕ)
-    → Ready R nums marks objectors targets labels lengths → (number x : ℕ)
-    → Found (λ i. get_or nums i 0 ≡ number) (length nums) x → x < length nums → (inside : List ℕ)
-    → Chosen marks objectors targets x inside → (room : List ℕ) (a : Answer) (after : List ℕ)
-    → RowsWritten nums objectors targets labels lengths inside x room a after → ReasonWritten R number room a after
-reason_written R nums marks objectors targets labels lengths ready number x found l inside chosen room = go
+-- the ticks of the objections that there are
+pub chosen_taken : (marks objectors targets : List ℕ) (x : ℕ) (inside : List ℕ) → Chosen marks objectors targets x inside
+    → Chosen marks objectors targets x (take (length objectors) inside)
+chosen_taken marks objectors targets x inside chosen k h = rw (get_or-take (length objectors) inside k 0 h) (chosen k h)
+
+pub reason_written : (R : Register) (r : LabelledRegister) → ReadyAs R r → (number x : ℕ)
+    → get_or r.numbers.now x 0 ≡ number → x < length r.numbers.now → (inside : List ℕ)
+    → Chosen r.labelled.pairs.marks.now r.labelled.pairs.objectors.now r.labelled.pairs.targets.now x inside
+    → (room : List ℕ) (a : Answer) (after : List ℕ) → RowsWritten r inside x room a after → ReasonWritten R number room a after
+reason_written R r ready number x there_is l inside chosen room = go
   where
     there : Places R number x
-    there = place R nums marks objectors targets ready.made number x found l
+    there = (
+      omega (arith, ap length ready.made.numbers_are),
+      sym (ap (λ (u : List ℕ). get_or u x 0) ready.made.numbers_are) ∙ there_is,
+    )
 
-    rows : List ℕ
-    rows = reason_rows nums objectors targets labels lengths inside x
+    is : IsReason R x (reason_rows r inside x)
+    is = ready_reason R r ready x inside l chosen
 
-    is : IsReason R x rows
-    is = ready_reason R nums marks objectors targets labels lengths ready x inside l chosen
-
-    go : (a : Answer) (after : List ℕ) → RowsWritten nums objectors targets labels lengths inside x room a after
-        → ReasonWritten R number room a after
-    go (Refused r) after ((short, e), same) =
-        (inr (inr ((x, there.0, there.1), omega arith, ((x, there, (rows, is, short)), e))), same)
-    go (Given n) after w = (x, there, (rows, is, w))
+    go : (a : Answer) (after : List ℕ) → RowsWritten r inside x room a after → ReasonWritten R number room a after
+    go (Err e) after ((short, w), same) =
+        (inr (inr ((x, there.0, there.1), omega arith, ((x, there, (reason_rows r inside x, is, short)), w))), same)
+    go (Ok n) after w = (x, there, (reason_rows r inside x, is, w))

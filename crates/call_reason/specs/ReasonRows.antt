@@ -3,9 +3,10 @@
 use Rattle.std.specs.Prelude.{Bool, not, cond, List, [], ◌++◌, ℕ, ◌<◌, get_or, length, eqb}
 use Rattle.register.specs.Register.{Register}
 use Rattle.answer.specs.Answer.{Promised, Short, Written}
-use Rattle.answer.specs.declared.Answer.{Answer}
+use Rattle.answer.specs.Answer.{Answer}
 use Rattle.register.specs.Texts.{rows_to}
-use Rattle.listing_row.specs.RowsAt.{objection_row_at, statement_row_at}
+use Rattle.register_solve.specs.declared.labelled_register.LabelledRegister.{LabelledRegister}
+use Rattle.listing_row.specs.RegisterRows.{place_row, entry_row}
 use Rattle.promises.specs.ReasonCalls.{ReasonRefused, ReasonIn}
 
 -- Not for callers: the same of one register.
@@ -16,23 +17,20 @@ ReasonWritten R number room a after = Promised (ReasonRefused R number room) (Re
 abbrev pub has_tick : List ℕ → ℕ → Bool
 has_tick inside k = not (eqb (get_or inside k 0) 0)
 
--- its row if it has, else nothing
-abbrev pub chosen_at : (nums objectors targets labels lengths inside : List ℕ) → ℕ → List ℕ
-chosen_at nums objectors targets labels lengths inside k =
-    cond (has_tick inside k) (objection_row_at nums objectors targets labels lengths k) []
+module _ (r : LabelledRegister) (inside : List ℕ) where
+  -- its row if it has, else nothing
+  abbrev pub chosen_at : ℕ → List ℕ
+  chosen_at k = cond (has_tick inside k) (entry_row r k) []
 
--- the rows of all that have
-unfoldable pub chosen_part : (nums objectors targets labels lengths inside : List ℕ) → List ℕ
-chosen_part nums objectors targets labels lengths inside =
-    rows_to (length objectors) (chosen_at nums objectors targets labels lengths inside)
+  -- the rows of all that have
+  unfoldable pub chosen_part : List ℕ
+  chosen_part = rows_to (length r.labelled.pairs.objectors.now) chosen_at
 
--- the row of the statement at the place x, and those rows
-abbrev pub reason_rows : (nums objectors targets labels lengths inside : List ℕ) → ℕ → List ℕ
-reason_rows nums objectors targets labels lengths inside x =
-    statement_row_at nums labels lengths x ++ chosen_part nums objectors targets labels lengths inside
+  -- the row of the statement at the place x, and those rows
+  abbrev pub reason_rows : ℕ → List ℕ
+  reason_rows x = place_row r x ++ chosen_part
 
--- they are written, or there is too little room for them
-abbrev pub RowsWritten : (nums objectors targets labels lengths inside : List ℕ) → ℕ → List ℕ → Answer → List ℕ → Type 0
-RowsWritten nums objectors targets labels lengths inside x room a after =
-    Promised (Short (length room < length (reason_rows nums objectors targets labels lengths inside x)))
-    (Written (reason_rows nums objectors targets labels lengths inside x) room) room a after
+  -- they are written, or there is too little room for them
+  abbrev pub RowsWritten : ℕ → List ℕ → Answer → List ℕ → Type 0
+  RowsWritten x room =
+      Promised (Short (length room < length (reason_rows x))) (Written (reason_rows x) room) room

@@ -2,27 +2,23 @@
 -- begin with no line. What becomes of a line that was read is left to others.
 use mathlib.Core.List.{List, append_assoc, append-nil, map, map-append, [], ◌∷◌, ◌++◌}
 use mathlib.Core.Path.{sym, ap, refl, subst, subst₂, ◌≡◌, ◌∙◌}
-use Prim.Native.Nat.{ℕ, ◌+◌, ◌≤◌, ◌<◌}
+use Prim.Native.Nat.{ℕ, ◌+◌, ◌≤◌}
 use native.Mathlib.Omega.{arith}
 use lib.ListN.{drop, length, length-append, length-map, length-set, set, take}
 use Rattle.register.specs.Number.{IsNumber, number_bytes}
 use Rattle.register.specs.Lines.{mark_byte}
 use Rattle.register.specs.declared.Mark.{Mark}
-use Rattle.register.specs.declared.Mark.TheVariants.{Read, Unread}
 use Rattle.register.specs.declared.StatementLine.{StatementLine}
 use Rattle.register.proofs.Number.{number_once}
 use Rattle.register_number.specs.NumberReading.{NumberAt, byte_at}
-use Rattle.register_number.specs.declared.NumberRead.TheVariants.{Value, NoNumber}
+use Rattle.std.specs.Prelude.{Some, None}
 use Rattle.register_number.proofs.NumberSteps.{second_bytes, first_byte, byte_first, byte_inside}
-use Rattle.register_line.proofs.Fields.{behind, after_head, begun}
+use Rattle.register_line.proofs.Fields.{behind, after_head}
 use Rattle.register_read.proofs.Held.{take_more}
 use Rattle.catalogue.specs.Cards.{Card, Each, fields_bytes, BeginsWithCard}
 use Rattle.catalogue.proofs.Cards.{fields_follow, card_split}
 use Rattle.catalogue.proofs.Against.{each_append}
 use Rattle.catalogue_read.specs.CatalogueState.{headed, HeadAt, FieldsFrom, RoomGrown, MoreOf, FieldsAt, CardAt}
-use Rattle.catalogue_read.specs.declared.HeadRead.TheVariants.{Head, NoHead}
-use Rattle.catalogue_read.specs.declared.FieldsRead.TheVariants.{Fields}
-use Rattle.catalogue_read.specs.declared.CardRead.TheVariants.{CardOf}
 
 -- What stands before the objectors.
 module _ (s : List ℕ) (at : ℕ) where
@@ -30,17 +26,7 @@ module _ (s : List ℕ) (at : ℕ) where
       × (drop (at + 2) s ≡ number_bytes st.number ++ (9 ∷ mark_byte st.mark ∷ rest))
   head_bytes st rest q = after_head s at 83 (number_bytes st.number ++ (9 ∷ mark_byte st.mark ∷ rest)) q
 
-  pub head_unlettered : (byte_at s at ≡ 83 → ⊥) → HeadAt s at NoHead
-  head_unlettered f st rest h q = f (head_bytes st rest q).0
-
-  pub head_untabbed : (byte_at s (at + 1) ≡ 9 → ⊥) → HeadAt s at NoHead
-  head_untabbed f st rest h q = f (head_bytes st rest q).1
-
-  pub head_unnumbered : NumberAt s (at + 2) NoNumber → HeadAt s at NoHead
-  head_unnumbered none st rest h q =
-      none st.number (9 ∷ mark_byte st.mark ∷ rest) h (omega arith) (head_bytes st rest q).2
-
-  module _ (v e : ℕ) (read : NumberAt s (at + 2) (Value v e)) where
+  module _ (v e : ℕ) (read : NumberAt s (at + 2) (Some (v, e))) where
     behind_number_lem : (st : StatementLine) (rest : List ℕ) → IsNumber st.number → drop at s ≡ headed st rest → (byte_at s e ≡ 9)
         × (byte_at s (e + 1) ≡ mark_byte st.mark)
     behind_number_lem st rest h q =
@@ -50,28 +36,11 @@ module _ (s : List ℕ) (at : ℕ) where
           first_byte s (e + 1) (mark_byte st.mark) rest (second_bytes s e 9 (mark_byte st.mark ∷ rest) t),
         )
 
-    pub head_unparted : (byte_at s e ≡ 9 → ⊥) → HeadAt s at NoHead
+    pub head_unparted : (byte_at s e ≡ 9 → ⊥) → HeadAt s at None
     head_unparted f st rest h q = f (behind_number_lem st rest h q).0
 
-    pub head_unmarked : (byte_at s (e + 1) ≡ 82 → ⊥) → (byte_at s (e + 1) ≡ 85 → ⊥) → HeadAt s at NoHead
-    head_unmarked f g st rest h q = go st.mark (behind_number_lem st rest h q).1
-      where
-        go : (m : Mark) → byte_at s (e + 1) ≡ mark_byte m → ⊥
-        go Read = f
-        go Unread = g
-
-    pub head_good : (m : Mark) → mark_byte m < 256 → byte_at s at ≡ 83 → byte_at s (at + 1) ≡ 9 → byte_at s e ≡ 9
-        → byte_at s (e + 1) ≡ mark_byte m → HeadAt s at (Head (record { number = v; mark = m }) (e + 2))
-    head_good m low a b c d =
-        let i : e + 1 + 1 ≡ e + 2 = omega arith in
-        let t : drop e s ≡ 9 ∷ mark_byte m ∷ drop (e + 2) s = byte_first s e 9 c (omega arith)
-        ∙ ap (λ u. 9 ∷ u) (byte_first s (e + 1) (mark_byte m) d low ∙ ap (λ k. mark_byte m ∷ drop k s) i) in (
-          read.0,
-          omega (arith, read.1),
-          omega (arith, byte_inside s (e + 1) (mark_byte m) d low),
-          begun s at 83 a b (omega arith)
-              ∙ ap (λ u. 83 ∷ 9 ∷ u) (read.3 ∙ ap (λ u. number_bytes v ++ u) t),
-        )
+    pub head_unmarked : ((m : Mark) → byte_at s (e + 1) ≡ mark_byte m → ⊥) → HeadAt s at None
+    head_unmarked f st rest h q = f st.mark (behind_number_lem st rest h q).1
 
 -- A room with one entry more, and the rooms with one objector more.
 grown_more : (room room' more : List ℕ) (m v : ℕ) → RoomGrown room m more room'
@@ -201,7 +170,7 @@ module _ (s : List ℕ) (at n m : ℕ) (objectors₀ targets₀ : List ℕ) wher
   }
 
   module _ (objectors targets : List ℕ) (end count : ℕ) (v : Inv s at n m objectors₀ targets₀ objectors targets end count) where
-    pub no_number : byte_at s end ≡ 9 → NumberAt s (end + 1) NoNumber → ¬ FieldsFrom s at
+    pub no_number : byte_at s end ≡ 9 → NumberAt s (end + 1) None → ¬ FieldsFrom s at
     no_number tab none f =
         let g = field s end (v.onward f) tab in
         none g.y (g.c ∷ g.tail) g.number g.parts g.are
@@ -209,7 +178,7 @@ module _ (s : List ℕ) (at n m : ℕ) (objectors₀ targets₀ : List ℕ) wher
     pub no_end : (byte_at s end ≡ 9 → ⊥) → (byte_at s end ≡ 10 → ⊥) → ¬ FieldsFrom s at
     no_end no-tab none f = none (ending s end (v.onward f) no-tab)
 
-    pub all : byte_at s end ≡ 10 → FieldsAt s at n m objectors₀ targets₀ objectors targets (Fields count (end + 1))
+    pub all : byte_at s end ≡ 10 → FieldsAt s at n m objectors₀ targets₀ objectors targets (Some (count, end + 1))
     all e = (
       v.ys,
       v.formed,
@@ -219,7 +188,7 @@ module _ (s : List ℕ) (at n m : ℕ) (objectors₀ targets₀ : List ℕ) wher
       v.more,
     )
 
-    pub turn : (number next : ℕ) → byte_at s end ≡ 9 → NumberAt s (end + 1) (Value number next)
+    pub turn : (number next : ℕ) → byte_at s end ≡ 9 → NumberAt s (end + 1) (Some (number, next))
         → Inv s at n m objectors₀ targets₀ (set objectors count number) (set targets count n) next (count + 1)
     turn number next tab read = record {
       ys = v.ys ++ (number ∷ []);
@@ -246,10 +215,7 @@ module _ (s : List ℕ) (at n m : ℕ) (objectors₀ targets₀ : List ℕ) wher
 
 -- A card is a head and its fields.
 module _ (s : List ℕ) (at : ℕ) where
-  pub no_head : HeadAt s at NoHead → (c : Card) → ¬ BeginsWithCard c (drop at s)
-  no_head none c (h, (rest, q)) = none c.statement (fields_bytes c.objectors ++ (10 ∷ rest)) h.0 (q ∙ card_split c rest)
-
-  module _ (st : StatementLine) (end : ℕ) (head : HeadAt s at (Head st end)) where
+  module _ (st : StatementLine) (end : ℕ) (head : HeadAt s at (Some (st, end))) where
     pub no_fields : ¬ FieldsFrom s end → (c : Card) → ¬ BeginsWithCard c (drop at s)
     no_fields none c (h, (rest, q)) =
         let fields : List ℕ = fields_bytes c.objectors ++ (10 ∷ rest) in
@@ -259,8 +225,8 @@ module _ (s : List ℕ) (at : ℕ) where
         none (record { fields = c.objectors; rest = rest; formed = h.1; are = cc })
 
     pub whole_card : (n m count next : ℕ) (objectors targets objectors' targets' : List ℕ)
-        → FieldsAt s end n m objectors targets objectors' targets' (Fields count next)
-        → CardAt s at n m objectors targets objectors' targets' (CardOf st count next)
+        → FieldsAt s end n m objectors targets objectors' targets' (Some (count, next))
+        → CardAt s at n m objectors targets objectors' targets' (Some (st, count, next))
     whole_card n m count next objectors targets objectors' targets' (ys, formed, l, within, e, more) =
         let c : Card = record { statement = st; objectors = ys } in (
           c,

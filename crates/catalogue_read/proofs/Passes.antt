@@ -1,82 +1,34 @@
 -- The two passes over the objectors when all lines are read: each is looked up and becomes a place, and none may be named twice
 -- on a line. Which cards are in order then is left to `AllCards`.
 use mathlib.Core.List.{List}
-use mathlib.Core.Logic.{inr}
-use mathlib.Core.Path.{refl, ap, sym, subst, ◌≡◌, ◌∙◌}
+use mathlib.Core.Path.{ap, sym, subst, ◌≡◌, ◌∙◌}
 use Prim.Native.Nat.{ℕ, ◌+◌, ◌≤◌, ◌<◌}
 use native.Mathlib.Decide.{ℕ_discrete}
 use native.Mathlib.Omega.{arith}
-use lib.ListN.{length, get_or, set, length-set}
+use lib.ListN.{length, get_or, set}
 use lib.Seq.{get_or-set_same, get_or-set_other}
-use Rattle.game.specs.Questions.{Found}
 use Rattle.game.proofs.Find.{further}
-use Rattle.register_read.specs.ReadState.{Absent}
 use Rattle.catalogue_read.specs.CatalogueState.{FirstLine, PlacedAt, Twice, InLine}
 
 -- The first k objectors are places, and the others are still numbers.
-pub record Placing (nums : List ℕ) (n m : ℕ) (objectors₀ objectors : List ℕ) (k : ℕ) : Type 0 where
-  pub few : k ≤ m
-  pub as_long : length objectors ≡ length objectors₀
+pub record Placing (nums : List ℕ) (n : ℕ) (objectors₀ objectors : List ℕ) (k : ℕ) : Type 0 where
   pub placed : (j : ℕ) → j < k → PlacedAt nums n objectors₀ objectors j
   pub others : (j : ℕ) → k ≤ j → get_or objectors j 0 ≡ get_or objectors₀ j 0
 
-module _ (nums : List ℕ) (n m : ℕ) (objectors₀ : List ℕ) where
-  pub none_placed : Placing nums n m objectors₀ objectors₀ 0
-  none_placed = record {
-    few = omega arith;
-    as_long = refl;
-    placed = λ j h. absurd (omega arith);
-    others = λ j h. refl;
-  }
-
-  module _ (objectors : List ℕ) (k y : ℕ) (v : Placing nums n m objectors₀ objectors k) (l : k < m)
-      (found : Found (λ x. get_or nums x 0 ≡ get_or objectors k 0) n y) where
-    here : get_or objectors k 0 ≡ get_or objectors₀ k 0
-    here = v.others k (omega arith)
-
-    pub one_placed : k < length objectors → y < n → Placing nums n m objectors₀ (set objectors k y) (k + 1)
-    one_placed room h = record {
-      few = omega arith;
-      as_long = length-set objectors k y ∙ v.as_long;
-      placed = λ j i. go j i (ℕ_discrete j k);
-      others = λ j i. get_or-set_other objectors k j y 0 (λ e. omega arith) ∙ v.others j (omega arith);
-    }
-      where
-        go : (j : ℕ) → j < k + 1 → Dec (j ≡ k) → PlacedAt nums n objectors₀ (set objectors k y) j
-        go j i (yes e) =
-            subst (PlacedAt nums n objectors₀ (set objectors k y)) (sym e) (rw (get_or-set_same objectors k y 0 room)
-            (h, subst (λ a. Found (λ x. get_or nums x 0 ≡ a) n y) here found))
-        go j i (no f) = rw (get_or-set_other objectors k j y 0 f) (v.placed j (omega arith))
-
-    pub unknown : n ≤ y → (targets : List ℕ) (line : ℕ) → line ≡ get_or targets k 0 + 1
-        → FirstLine (PlacedAt nums n objectors₀ objectors) (λ j. Absent nums n (get_or objectors₀ j 0)) targets m line
-    unknown h targets line e = inr (k, l, v.placed, (λ i q p. found.1 i (omega arith) (p ∙ sym here)), e)
-
 -- None of the first k objectors is named twice on a line, and for each statement `last` has the last line that named it.
-pub record Naming (objectors targets : List ℕ) (m : ℕ) (last₀ last : List ℕ) (k : ℕ) : Type 0 where
-  pub few : k ≤ m
-  pub as_long : length last ≡ length last₀
+pub record Naming (objectors targets last : List ℕ) (k : ℕ) : Type 0 where
   pub none : (j : ℕ) → j < k → ¬ Twice objectors targets j
   pub named : (j : ℕ) → j < k → get_or targets j 0 + 1 ≤ get_or last (get_or objectors j 0) 0
   pub lines : (y : ℕ) → 0 < get_or last y 0 → (j : ℕ) × (j < k) × (get_or objectors j 0 ≡ y) ×
       (get_or targets j 0 + 1 ≡ get_or last y 0)
 
-module _ (objectors targets : List ℕ) (m : ℕ) (last₀ : List ℕ) where
-  pub none_named : ((y : ℕ) → get_or last₀ y 0 ≡ 0) → Naming objectors targets m last₀ last₀ 0
-  none_named zeros = record {
-    few = omega arith;
-    as_long = refl;
-    none = λ j h. absurd (omega arith);
-    named = λ j h. absurd (omega arith);
-    lines = λ y h. absurd (omega (arith, zeros y));
-  }
-
-  module _ (last : List ℕ) (k y line : ℕ) (v : Naming objectors targets m last₀ last k) (l : k < m)
+module _ (objectors targets : List ℕ) where
+  module _ (last : List ℕ) (k y line : ℕ) (v : Naming objectors targets last k) (m : ℕ) (l : k < m)
       (at : y ≡ get_or objectors k 0) (on : line ≡ get_or targets k 0 + 1) where
     pub repeated : get_or last y 0 ≡ line → FirstLine (λ j. ¬ Twice objectors targets j) (Twice objectors targets) targets m line
     repeated e =
         let (j, h, p, q) = v.lines y (omega arith) in
-        inr (k, l, v.none, (j, h, p ∙ at, omega arith), on)
+        (k, l, v.none, (j, h, p ∙ at, omega arith), on)
 
     module _ (order : InLine targets m) (new : get_or last y 0 ≡ line → ⊥) where
       once : ¬ Twice objectors targets k
@@ -86,10 +38,8 @@ module _ (objectors targets : List ℕ) (m : ℕ) (last₀ : List ℕ) where
           let (i, g, r, t) = v.lines y (omega arith) in
           new (omega (arith, order.rising i k g l))
 
-      pub one_named : y < length last → Naming objectors targets m last₀ (set last y line) (k + 1)
+      pub one_named : y < length last → Naming objectors targets (set last y line) (k + 1)
       one_named room = record {
-        few = omega arith;
-        as_long = length-set last y line ∙ v.as_long;
         none = further (Twice objectors targets) k v.none once;
         named = λ j h. named j h (ℕ_discrete (get_or objectors j 0) y);
         lines = λ x. lines x (ℕ_discrete x y);

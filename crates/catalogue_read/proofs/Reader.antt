@@ -3,9 +3,10 @@
 use mathlib.Core.List.{List, map, map-append, append_assoc, append-nil, [], ◌∷◌, ◌++◌}
 use mathlib.Core.Logic.{inl, inr}
 use mathlib.Core.Path.{refl, ap, sym, subst, ◌≡◌, ◌∙◌}
-use Prim.Native.Nat.{ℕ, ◌+◌, ◌≤◌, ◌<◌}
+use Prim.Native.Nat.{ℕ, ◌+◌, ◌≤◌}
 use native.Mathlib.Omega.{arith}
-use lib.ListN.{length, take, drop, length-drop, length-map, length-append, drop_of_length-le}
+use lib.ListN.{length, take, drop, length-map, length-append, drop_of_length-le}
+use lib.Seq.{take_all, length-take-le, take-append_seam}
 use Rattle.register.specs.Lines.{mark_number}
 use Rattle.register.specs.declared.StatementLine.{StatementLine}
 use Rattle.register.specs.declared.TextFault.{TextFault}
@@ -14,9 +15,7 @@ use Rattle.register.specs.declared.TextFault.TheVariants.{Unknown, Repeated}
 use Rattle.register.specs.Register.{numbers, marks_of}
 use Rattle.register.specs.Reads.{NotEnded}
 use Rattle.register.proofs.OneMore.{empty_valid}
-use Rattle.register_read.specs.declared.Reading.{Reading}
-use Rattle.register_read.specs.declared.Reading.TheVariants.{Whole, Refused}
-use Rattle.register_read.specs.declared.Taken.TheVariants.{AtFault, Kept}
+use Rattle.std.specs.Prelude.{Some, Ok, Err}
 use Rattle.register_read.proofs.Held.{take_more}
 use Rattle.catalogue.specs.Cards.{Card, card_bytes, cards_bytes, BeginsWithCard, Each}
 use Rattle.catalogue.specs.Regrouped.{all_statements, all_objections, register_of}
@@ -25,9 +24,28 @@ use Rattle.catalogue.proofs.Cards.{cards_bytes_append, sound_more, objections_co
 use Rattle.catalogue.proofs.Regrouped.{catalogue_of_cards}
 use Rattle.catalogue_read.specs.CatalogueState.{Filed, CardAt, CardTaken, SettledAs, OverallFault, places_from}
 use Rattle.catalogue_read.specs.CatalogueState.{CatalogueReadsTo}
-use Rattle.catalogue_read.specs.declared.CardRead.TheVariants.{CardOf}
 use Rattle.catalogue_read.proofs.AllCards.{codes_more, places_more, targets_are}
 use Rattle.catalogue_read.proofs.Settled.{number_listed, number_unlisted}
+
+pub few_objectors : {cs : List Card} {n m : ℕ} {nums objectors targets : List ℕ} → Filed cs n m nums objectors targets → m ≤ 4096
+few_objectors f = omega (arith, f.objections, f.sound.few_objections)
+
+-- The parts of the rooms that are in use hold the cards.
+pub filed_part : {cs : List Card} {n m : ℕ} {nums objectors targets : List ℕ} → Filed cs n m nums objectors targets
+    → 4096 ≤ length objectors → 4096 ≤ length targets
+    → Filed cs n (length (take m objectors)) nums (take m objectors) (take m targets)
+filed_part {cs} {n} {m} {nums} {objectors} {targets} f b c =
+    let few : m ≤ 4096 = few_objectors f in
+    let q : length (take m objectors) ≡ m = length-take-le m objectors (omega arith) in
+    let r : length (take m targets) ≡ m = length-take-le m targets (omega arith) in
+    subst (λ k. Filed cs n k nums (take m objectors) (take m targets)) (sym q) (record {
+      sound = f.sound;
+      statements = f.statements;
+      objections = f.objections;
+      numbers_are = f.numbers_are;
+      codes_are = take_all m (take m objectors) (omega arith) ∙ f.codes_are;
+      places_are = take_all m (take m targets) (omega arith) ∙ f.places_are;
+    })
 
 pub record Inv (s : List ℕ) (at n m : ℕ) (nums marks objectors targets : List ℕ) : Type 0 where
   pub cards : List Card
@@ -64,12 +82,6 @@ module _ (s : List ℕ) (at n m : ℕ) (nums marks objectors targets : List ℕ)
   statements_counted : length (all_statements v.cards) ≡ n
   statements_counted = length-map v.cards (λ (c : Card). c.statement) ∙ v.filed.statements
 
-  pub few : (n ≤ 1024) × (m ≤ 4096)
-  few = (
-    omega (arith, statements_counted, v.filed.sound.listed.few_statements),
-    omega (arith, v.filed.objections, v.filed.sound.few_objections),
-  )
-
   module _ (fits : length s ≤ 65535) (ended : ¬ NotEnded s) where
     reached : (Fault : List Card → List ℕ → Type 0) → Fault v.cards (drop at s) → CardFault s (n + 1) Fault
     reached Fault f = record {
@@ -83,19 +95,15 @@ module _ (s : List ℕ) (at n m : ℕ) (nums marks objectors targets : List ℕ)
       fault = f;
     }
 
-    pub spoiled : at < length s → ((c : Card) → ¬ BeginsWithCard c (drop at s)) → CatalogueRefuses s (Spoiled (n + 1))
-    spoiled l f =
-        reached (λ cs rest. (0 < length rest) × ((c : Card) → ¬ BeginsWithCard c rest)) (omega (arith, length-drop at s), f)
-
     pub fault : (st : StatementLine) (count next : ℕ) (objectors' targets' : List ℕ)
-        → CardAt s at n m objectors targets objectors' targets' (CardOf st count next) → (r : TextFault)
-        → CardTaken nums marks n count st nums marks (AtFault r) → CatalogueRefuses s r
+        → CardAt s at n m objectors targets objectors' targets' (Some (st, count, next)) → (r : TextFault)
+        → CardTaken nums marks n count st nums marks (Err r) → CatalogueRefuses s r
     fault st count next objectors' targets' (c, same, formed, l, within, e, more) r = go
       where
         begun : BeginsWithCard c (drop at s)
         begun = (formed, (drop next s, e))
 
-        go : CardTaken nums marks n count st nums marks (AtFault r) → CatalogueRefuses s r
+        go : CardTaken nums marks n count st nums marks (Err r) → CatalogueRefuses s r
         go (inl (h, q)) =
             subst (CatalogueRefuses s) (sym q) (reached _ (c, begun, omega (arith, v.filed.statements)))
         go (inr (inl (h, (i, at_i), q))) =
@@ -125,8 +133,8 @@ module _ (s : List ℕ) (at n m : ℕ) (nums marks objectors targets : List ℕ)
   -- the card is kept
   pub kept : (st : StatementLine) (count next : ℕ) (nums' marks' objectors' targets' : List ℕ) → 1024 ≤ length nums
       → 1024 ≤ length marks → 4096 ≤ length objectors → 4096 ≤ length targets
-      → CardAt s at n m objectors targets objectors' targets' (CardOf st count next)
-      → CardTaken nums marks n count st nums' marks' Kept → Inv s next (n + 1) count nums' marks' objectors' targets'
+      → CardAt s at n m objectors targets objectors' targets' (Some (st, count, next))
+      → CardTaken nums marks n count st nums' marks' (Ok tt) → Inv s next (n + 1) count nums' marks' objectors' targets'
   unfolding cards_bytes all_objections
   kept st count next nums' marks' objectors' targets' a b d g (c, same, formed, l, inside, e, more) (h, new, low, p, q) = record {
     cards = cs ++ (c ∷ []);
@@ -186,7 +194,7 @@ module _ (s : List ℕ) (at n m : ℕ) (nums marks objectors targets : List ℕ)
         subst (λ u. CatalogueOf u (register_of v.cards)) (sym all_read)
         (catalogue_of_cards v.cards v.filed.sound listed once)
 
-    refused : (r : TextFault) → OverallFault v.cards r → CatalogueRefuses s r
+    pub refused : (r : TextFault) → OverallFault v.cards r → CatalogueRefuses s r
     refused TooLong (listed, once, l) = inr (register_of v.cards, catalogue listed once, l)
     refused (Unknown k) f = (fits, (v.cards, v.filed.sound, all_read, f))
     refused (Repeated k) f = (fits, (v.cards, v.filed.sound, all_read, f))
@@ -197,18 +205,17 @@ module _ (s : List ℕ) (at n m : ℕ) (nums marks objectors targets : List ℕ)
     refused (Issued k) f = absurd f
     refused (Objections k) f = absurd f
 
-    pub overall : (objectors' : List ℕ) (r : Reading) → SettledAs v.cards n m objectors' r
-        → CatalogueReadsTo s nums marks objectors' targets r
-    overall objectors' (Whole n' m') (listed, once, short, p, q, are) = (
+    pub overall : (objectors' rest : List ℕ) → SettledAs v.cards objectors' (Ok tt) → length objectors' ≡ m
+        → CatalogueReadsTo s nums marks (objectors' ++ rest) targets (Ok (n, m))
+    overall objectors' rest (listed, once, short, are) counted = (
       register_of v.cards,
       record { catalogue = catalogue listed once; fits = short },
       record {
-        statements = statements_counted ∙ sym p;
-        objections = v.filed.objections ∙ sym q;
-        numbers_are = ap (λ k. take k nums) p ∙ v.filed.numbers_are;
-        marks_are = ap (λ k. take k marks) p ∙ v.marks_are;
-        objectors_are = ap (λ k. take k objectors') q ∙ are;
-        targets_are = ap (λ k. take k targets) q ∙ v.filed.places_are ∙ sym (targets_are v.cards v.filed.sound.listed);
+        statements = statements_counted;
+        objections = v.filed.objections;
+        numbers_are = v.filed.numbers_are;
+        marks_are = v.marks_are;
+        objectors_are = ap (λ k. take k (objectors' ++ rest)) (sym counted) ∙ take-append_seam objectors' rest ∙ are;
+        targets_are = v.filed.places_are ∙ sym (targets_are v.cards v.filed.sound.listed);
       },
     )
-    overall objectors' (Refused r) f = refused r f

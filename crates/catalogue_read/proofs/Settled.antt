@@ -1,12 +1,11 @@
 -- What the passes over the rooms say of the cards that stand there: whether each names listed numbers only, and none twice, and
 -- the register that they make then. The entries are those of the cards, one behind the other (`AllCards`).
 use mathlib.Core.List.{List, []}
-use mathlib.Core.Logic.{inl, inr}
 use mathlib.Core.Path.{refl, ap, sym, subst, ◌≡◌, ◌∙◌}
 use Prim.Native.Nat.{ℕ, ◌+◌, ◌≤◌, ◌<◌}
 use native.Mathlib.Omega.{arith}
 use lib.ListN.{length, get_or, take, length-map}
-use lib.Seq.{take_all, get_or-take, ext_get_or, length-take-le}
+use lib.Seq.{take_all, get_or-take, ext_get_or}
 use Rattle.register.specs.Lines.{mark_number}
 use Rattle.register.specs.declared.StatementLine.{StatementLine}
 use Rattle.register.specs.declared.ObjectionLine.{ObjectionLine}
@@ -22,17 +21,11 @@ use Rattle.catalogue_read.specs.CatalogueState.{Filed, FirstLine, PlacedAt, Twic
 use Rattle.catalogue_read.proofs.AllCards.{codes, targets_are, each_fine, first_card, ListedAt, listed_tells, TwiceAt}
 use Rattle.catalogue_read.proofs.AllCards.{once_tells, places_low}
 
--- the answer 0 says that each entry is fine
-all_fine : (Fine Fault : ℕ → Type 0) (targets : List ℕ) (m line : ℕ) → FirstLine Fine Fault targets m line → line ≡ 0
-    → (j : ℕ) → j < m → Fine j
-all_fine Fine Fault targets m line (inl (z, f)) e = f
-all_fine Fine Fault targets m line (inr (k, h, f, b, l)) e = absurd (omega arith)
-
 -- cards of which nothing is at fault, and the register that they make, by the places of its objectors
-pub record Passed (cs : List Card) (n m : ℕ) (nums targets objectors' : List ℕ) : Type 0 where
+pub record Passed (cs : List Card) (nums targets objectors' : List ℕ) : Type 0 where
   pub listed : Each (NamesListed cs) cs
   pub once : Each NamesOnce cs
-  pub made : Made (register_of cs) (take n nums) (marks_of (register_of cs)) (take m objectors') (take m targets)
+  pub made : Made (register_of cs) nums (marks_of (register_of cs)) objectors' targets
 
 -- The register of statements alone stands in the room of the numbers: which numbers are on it, and at which place.
 module _ (S : List StatementLine) (n : ℕ) (nums : List ℕ) (counted : length S ≡ n) (are : take n nums ≡ numbers (bare S)) where
@@ -94,9 +87,9 @@ module _ (cs : List Card) (n m : ℕ) (nums objectors targets : List ℕ) (filed
 
   module _ (objectors' : List ℕ) where
     listed_at : (j : ℕ) → j < m → PlacedAt nums n objectors objectors' j → ListedAt cs j
-    listed_at j h (l, f) =
+    listed_at j h (l, _, f) =
         subst (ListedIn cs) (code_at j h) (number_listed (all_statements cs) n nums statements_counted filed.numbers_are
-        (get_or objectors j 0) (get_or objectors' j 0) (l, f.2 l))
+        (get_or objectors j 0) (get_or objectors' j 0) (l, f))
 
     unlisted_at : (j : ℕ) → j < m → Absent nums n (get_or objectors j 0) → ¬ ListedAt cs j
     unlisted_at j h f w =
@@ -105,19 +98,12 @@ module _ (cs : List Card) (n m : ℕ) (nums objectors targets : List ℕ) (filed
 
     pub unknown_card : (line : ℕ)
         → FirstLine (PlacedAt nums n objectors objectors') (λ j. Absent nums n (get_or objectors j 0)) targets m line
-        → (line ≡ 0 → ⊥) → FirstCard (NamesListed cs) cs line
-    unknown_card line (inl (z, f)) some = absurd (some z)
-    unknown_card line (inr (k, h, f, b, l)) some =
+        → FirstCard (NamesListed cs) cs line
+    unknown_card line (k, h, f, b, l) =
         first_card (NamesListed cs) (ListedAt cs) (λ j. ¬ ListedAt cs j) cs (listed_tells cs) k line (omega (arith, counted))
         (λ j i. listed_at j (omega arith) (f j i)) (unlisted_at k h b) (l ∙ ap (λ a. a + 1) (place_at k h))
 
-    module _ (line : ℕ)
-        (looked : FirstLine (PlacedAt nums n objectors objectors') (λ j. Absent nums n (get_or objectors j 0)) targets m line)
-        (clear : line ≡ 0) where
-      placed : (j : ℕ) → j < m → PlacedAt nums n objectors objectors' j
-      placed =
-          all_fine (PlacedAt nums n objectors objectors') (λ j. Absent nums n (get_or objectors j 0)) targets m line looked clear
-
+    module _ (placed : (j : ℕ) → j < m → PlacedAt nums n objectors objectors' j) where
       pub all_listed : Each (NamesListed cs) cs
       all_listed =
           each_fine (NamesListed cs) (ListedAt cs) (λ j. ¬ ListedAt cs j) cs (listed_tells cs)
@@ -125,26 +111,16 @@ module _ (cs : List Card) (n m : ℕ) (nums objectors targets : List ℕ) (filed
 
       objector_at : (j : ℕ) → j < m → get_or objectors' j 0 ≡ place_of (numbers (register_of cs)) (get_or (codes cs) j 0)
       objector_at j h =
-          let (l, f) = placed j h in
+          let (l, first, f) = placed j h in
           sym (number_placed (all_statements cs) n nums statements_counted filed.numbers_are (get_or objectors j 0)
-          (get_or objectors' j 0) (l, f.2 l) f.1)
+          (get_or objectors' j 0) (l, f) first)
           ∙ ap (place_of (numbers (register_of cs))) (code_at j h)
-
-      pub placed_low : (j : ℕ) → j < m → get_or objectors' j 0 < 1024
-      placed_low j h =
-          omega (
-            arith,
-            (placed j h).0,
-            statements_counted,
-            filed.sound.listed.few_statements,
-          )
 
       -- the same objector by place and by number
       same_code : (i j : ℕ) → i < m → j < m → get_or objectors' i 0 ≡ get_or objectors' j 0
           → get_or (codes cs) i 0 ≡ get_or (codes cs) j 0
       same_code i j h k e =
-          sym (code_at i h) ∙ sym ((placed i h).1.2 (placed i h).0) ∙ ap (λ a. get_or nums a 0) e
-          ∙ (placed j k).1.2 (placed j k).0 ∙ code_at j k
+          sym (code_at i h) ∙ sym (placed i h).2 ∙ ap (λ a. get_or nums a 0) e ∙ (placed j k).2 ∙ code_at j k
 
       same_place : (i j : ℕ) → i < m → j < m → get_or (codes cs) i 0 ≡ get_or (codes cs) j 0
           → get_or objectors' i 0 ≡ get_or objectors' j 0
@@ -160,50 +136,41 @@ module _ (cs : List Card) (n m : ℕ) (nums objectors targets : List ℕ) (filed
           let k : i < m = omega arith in
           (i, l, same_place i j k h e, place_at i k ∙ t ∙ sym (place_at j h))
 
-      pub repeated_card : (line' : ℕ)
-          → FirstLine (λ j. ¬ Twice objectors' targets j) (Twice objectors' targets) targets m line'
-          → (line' ≡ 0 → ⊥) → FirstCard NamesOnce cs line'
-      repeated_card line' (inl (z, f)) some = absurd (some z)
-      repeated_card line' (inr (k, h, f, b, l)) some =
-          first_card NamesOnce (λ j. ¬ TwiceAt cs j) (TwiceAt cs) cs (once_tells cs) k line' (omega (arith, counted))
+      pub repeated_card : (line : ℕ)
+          → FirstLine (λ j. ¬ Twice objectors' targets j) (Twice objectors' targets) targets m line → FirstCard NamesOnce cs line
+      repeated_card line (k, h, f, b, l) =
+          first_card NamesOnce (λ j. ¬ TwiceAt cs j) (TwiceAt cs) cs (once_tells cs) k line (omega (arith, counted))
           (λ j i w. f j i (twice_back j (omega arith) w)) (twice_at k h b) (l ∙ ap (λ a. a + 1) (place_at k h))
 
-      module _ (line' : ℕ)
-          (named : FirstLine (λ j. ¬ Twice objectors' targets j) (Twice objectors' targets) targets m line')
-          (apart : line' ≡ 0) (room : m ≤ length objectors') where
-        once_at : (j : ℕ) → j < m → ¬ TwiceAt cs j
-        once_at j h w =
-            all_fine (λ j. ¬ Twice objectors' targets j) (Twice objectors' targets) targets m line' named apart j h
-            (twice_back j h w)
+      module _ (apart : (j : ℕ) → j < m → ¬ Twice objectors' targets j)
+          (all_objectors : length objectors' ≡ m) (all_targets : length targets ≡ m)
+        where
+          all_once : Each NamesOnce cs
+          all_once =
+              each_fine NamesOnce (λ j. ¬ TwiceAt cs j) (TwiceAt cs) cs (once_tells cs)
+              (λ j h w. let i : j < m = omega (arith, counted) in apart j i (twice_back j i w))
 
-        all_once : Each NamesOnce cs
-        all_once =
-            each_fine NamesOnce (λ j. ¬ TwiceAt cs j) (TwiceAt cs) cs (once_tells cs)
-            (λ j h. once_at j (omega (arith, counted)))
+          objectors_are : objectors' ≡ objectors_of (register_of cs)
+          objectors_are =
+              ext_get_or 0 objectors' (objectors_of (register_of cs)) (all_objectors ∙ sym (placed_counted ∙ counted))
+              (λ j h. objector_at j (omega (arith, all_objectors))
+              ∙ sym (mapped (place_of (numbers (register_of cs))) (codes cs) j (omega (arith, all_objectors, counted))))
+            where
+              placed_counted : length (objectors_of (register_of cs)) ≡ length (codes cs)
+              placed_counted = length-map (codes cs) (place_of (numbers (register_of cs)))
 
-        objectors_are : take m objectors' ≡ objectors_of (register_of cs)
-        objectors_are =
-            ext_get_or 0 (take m objectors') (objectors_of (register_of cs)) (long ∙ sym (placed_counted ∙ counted))
-            (λ j h. let i : j < m = omega (arith, long) in
-            get_or-take m objectors' j 0 i ∙ objector_at j i
-            ∙ sym (mapped (place_of (numbers (register_of cs))) (codes cs) j (omega (arith, counted))))
-          where
-            long : length (take m objectors') ≡ m
-            long = length-take-le m objectors' room
-
-            placed_counted : length (objectors_of (register_of cs)) ≡ length (codes cs)
-            placed_counted = length-map (codes cs) (place_of (numbers (register_of cs)))
-
-        pub passed : Passed cs n m nums targets objectors'
-        passed = record {
-          listed = all_listed;
-          once = all_once;
-          made =
-              record {
-                valid = cards_valid cs filed.sound all_listed all_once;
-                numbers_are = filed.numbers_are;
-                marks_are = refl;
-                objectors_are = objectors_are;
-                targets_are = filed.places_are ∙ sym (targets_are cs filed.sound.listed);
-              };
-        }
+          pub passed : Passed cs (take n nums) targets objectors'
+          passed = record {
+            listed = all_listed;
+            once = all_once;
+            made =
+                record {
+                  valid = cards_valid cs filed.sound all_listed all_once;
+                  numbers_are = filed.numbers_are;
+                  marks_are = refl;
+                  objectors_are = objectors_are;
+                  targets_are =
+                      sym (take_all m targets (omega (arith, all_targets))) ∙ filed.places_are
+                      ∙ sym (targets_are cs filed.sound.listed);
+                };
+          }

@@ -1,7 +1,8 @@
 -- What reading a catalogue leaves in the lent rooms, and what reading or taking one line does to them. Which texts are
 -- catalogues, and of which registers, `catalogue` says; what rooms that hold a register are, `register_read`.
-use Rattle.std.specs.Prelude.{List, map, [], ◌∷◌, ◌++◌, ◌⊎◌, ◌≡◌, ℕ, suc, ◌+◌, ◌≤◌, ◌<◌, length, take, drop, get_or, set}
-use Rattle.game.specs.Questions.{Found}
+use Rattle.std.specs.Prelude.{Option, Some, None, Result, Ok, Err, List, map, [], ◌∷◌, ◌++◌, ◌⊎◌, ◌≡◌, ℕ, suc, ◌+◌, ◌≤◌, ◌<◌}
+use Rattle.std.specs.Prelude.{length, take, drop, get_or, set}
+use Rattle.game.specs.Questions.{FirstBelow}
 use Rattle.register.specs.Number.{IsNumber, number_bytes}
 use Rattle.register.specs.Lines.{mark_byte, mark_number}
 use Rattle.register.specs.declared.StatementLine.{StatementLine}
@@ -12,32 +13,22 @@ use Rattle.register.specs.Register.{Register, numbers, objector_numbers, objecto
 use Rattle.catalogue.specs.Cards.{Card, CardFormed, BeginsWithCard, Each, card_bytes, fields_bytes}
 use Rattle.catalogue.specs.Regrouped.{all_objections, register_of}
 use Rattle.catalogue.specs.CatalogueReads.{CatalogueAccepts, CatalogueRefuses, SoundCards, NamesListed, NamesOnce, FirstCard}
-use Rattle.register_read.specs.declared.Reading.{Reading}
-use Rattle.register_read.specs.declared.Reading.TheVariants.{Whole, Refused}
-use Rattle.register_read.specs.declared.Taken.{Taken}
-use Rattle.register_read.specs.declared.Taken.TheVariants.{Kept, AtFault}
 use Rattle.register_read.specs.ReadState.{Holds, Absent, At}
-use Rattle.catalogue_read.specs.declared.HeadRead.{HeadRead}
-use Rattle.catalogue_read.specs.declared.HeadRead.TheVariants.{Head, NoHead}
-use Rattle.catalogue_read.specs.declared.FieldsRead.{FieldsRead}
-use Rattle.catalogue_read.specs.declared.FieldsRead.TheVariants.{Fields, NoFields}
-use Rattle.catalogue_read.specs.declared.CardRead.{CardRead}
-use Rattle.catalogue_read.specs.declared.CardRead.TheVariants.{CardOf, NoCard}
 
 -- what the reader answers, with the rooms as it leaves them
-abbrev pub CatalogueReadsTo : List ℕ → (nums marks objectors targets : List ℕ) → Reading → Type 0
-CatalogueReadsTo s nums marks objectors targets (Whole n m) =
+abbrev pub CatalogueReadsTo : List ℕ → (nums marks objectors targets : List ℕ) → Result (ℕ × ℕ) TextFault → Type 0
+CatalogueReadsTo s nums marks objectors targets (Ok (n, m)) =
     (R : Register) × CatalogueAccepts s R × Holds R n m nums marks objectors targets
-CatalogueReadsTo s nums marks objectors targets (Refused r) = CatalogueRefuses s r
+CatalogueReadsTo s nums marks objectors targets (Err r) = CatalogueRefuses s r
 
 -- The rest is not for callers. What stands before a card's fields, and what follows.
 abbrev pub headed : StatementLine → List ℕ → List ℕ
 headed st rest = 83 ∷ 9 ∷ (number_bytes st.number ++ (9 ∷ mark_byte st.mark ∷ rest))
 
 -- what reading it answers: the statement and the place behind its mark, or that none stands there
-abbrev pub HeadAt : List ℕ → ℕ → HeadRead → Type 0
-HeadAt s at (Head st end) = IsNumber st.number × (at < end) × (end ≤ length s) × (drop at s ≡ headed st (drop end s))
-HeadAt s at NoHead = (st : StatementLine) (rest : List ℕ) → IsNumber st.number → drop at s ≡ headed st rest → ⊥
+abbrev pub HeadAt : List ℕ → ℕ → Option (StatementLine × ℕ) → Type 0
+HeadAt s at (Some (st, end)) = IsNumber st.number × (at < end) × (end ≤ length s) × (drop at s ≡ headed st (drop end s))
+HeadAt s at None = (st : StatementLine) (rest : List ℕ) → IsNumber st.number → drop at s ≡ headed st rest → ⊥
 
 -- the rest of a line: numbers, each behind a tab, and the end
 pub record FieldsFrom (s : List ℕ) (at : ℕ) : Type 0 where
@@ -58,25 +49,27 @@ pub record MoreOf (n m count : ℕ) (ys objectors targets objectors' targets' : 
   pub targets_grown : RoomGrown targets m (map (λ (y : ℕ). n) ys) targets'
 
 -- what reading the fields answers: how many objectors there are now, and where the next line starts
-abbrev pub FieldsAt : List ℕ → (at n m : ℕ) → (objectors targets objectors' targets' : List ℕ) → FieldsRead → Type 0
-FieldsAt s at n m objectors targets objectors' targets' (Fields count next) =
+abbrev pub FieldsAt : List ℕ → (at n m : ℕ) → (objectors targets objectors' targets' : List ℕ) → Option (ℕ × ℕ) → Type 0
+FieldsAt s at n m objectors targets objectors' targets' (Some (count, next)) =
     (ys : List ℕ) × Each IsNumber ys × (at < next) × (next ≤ length s) × (drop at s ≡ fields_bytes ys ++ (10 ∷ drop next s))
     × MoreOf n m count ys objectors targets objectors' targets'
-FieldsAt s at n m objectors targets objectors' targets' NoFields = ¬ FieldsFrom s at
+FieldsAt s at n m objectors targets objectors' targets' None = ¬ FieldsFrom s at
 
 -- and the whole line
-abbrev pub CardAt : List ℕ → (at n m : ℕ) → (objectors targets objectors' targets' : List ℕ) → CardRead → Type 0
-CardAt s at n m objectors targets objectors' targets' (CardOf st count next) =
+abbrev pub CardAt : List ℕ → (at n m : ℕ) → (objectors targets objectors' targets' : List ℕ)
+    → Option (StatementLine × ℕ × ℕ) → Type 0
+CardAt s at n m objectors targets objectors' targets' (Some (st, count, next)) =
     (c : Card) × (c.statement ≡ st) × CardFormed c × (at < next) × (next ≤ length s) × (drop at s ≡ card_bytes c ++ drop next s)
     × MoreOf n m count c.objectors objectors targets objectors' targets'
-CardAt s at n m objectors targets objectors' targets' NoCard = (c : Card) → ¬ BeginsWithCard c (drop at s)
+CardAt s at n m objectors targets objectors' targets' None = (c : Card) → ¬ BeginsWithCard c (drop at s)
 
 -- what becomes of the statement of a card after n others, if there are so many objectors with the card's
-abbrev pub CardTaken : (nums marks : List ℕ) (n count : ℕ) → StatementLine → (nums' marks' : List ℕ) → Taken → Type 0
-CardTaken nums marks n count st nums' marks' Kept =
+abbrev pub CardTaken : (nums marks : List ℕ) (n count : ℕ) → StatementLine → (nums' marks' : List ℕ) → Result Unit TextFault
+    → Type 0
+CardTaken nums marks n count st nums' marks' (Ok _) =
     (n < 1024) × Absent nums n st.number × (count ≤ 4096) × (nums' ≡ set nums n st.number)
     × (marks' ≡ set marks n (mark_number st.mark))
-CardTaken nums marks n count st nums' marks' (AtFault r) =
+CardTaken nums marks n count st nums' marks' (Err r) =
     ((1024 ≤ n) × (r ≡ Statements (n + 1)))
     ⊎ (((n < 1024) × ((i : ℕ) × At nums n st.number i) × (r ≡ Issued (n + 1)))
     ⊎ ((n < 1024) × Absent nums n st.number × (4096 < count) × (r ≡ Objections (n + 1))))
@@ -95,16 +88,15 @@ pub record Filed (cs : List Card) (n m : ℕ) (nums objectors targets : List ℕ
   pub codes_are : take m objectors ≡ objector_numbers (register_of cs)
   pub places_are : take m targets ≡ places_from 0 cs
 
--- Looking over the first m entries answers 0 if each is as it should be, else the line of the earliest that is not.
+-- the line of the earliest of the first m entries that is not as it should be
 abbrev pub FirstLine : (Fine Fault : ℕ → Type 0) (targets : List ℕ) (m line : ℕ) → Type 0
 FirstLine Fine Fault targets m line =
-    ((line ≡ 0) × ((j : ℕ) → j < m → Fine j))
-    ⊎ ((k : ℕ) × (k < m) × ((j : ℕ) → j < k → Fine j) × Fault k × (line ≡ get_or targets k 0 + 1))
+    (k : ℕ) × (k < m) × ((j : ℕ) → j < k → Fine j) × Fault k × (line ≡ get_or targets k 0 + 1)
 
 -- the entry j was a number, and is the first place where that stands
 abbrev pub PlacedAt : (nums : List ℕ) (n : ℕ) (objectors objectors' : List ℕ) → ℕ → Type 0
 PlacedAt nums n objectors objectors' j =
-    (get_or objectors' j 0 < n) × Found (λ x. get_or nums x 0 ≡ get_or objectors j 0) n (get_or objectors' j 0)
+    FirstBelow (λ x. get_or nums x 0 ≡ get_or objectors j 0) n (Some (get_or objectors' j 0))
 
 -- an entry before k names the same objector and target
 abbrev pub Twice : (objectors targets : List ℕ) → ℕ → Type 0
@@ -129,8 +121,8 @@ OverallFault cs (Statements k) = ⊥
 OverallFault cs (Issued k) = ⊥
 OverallFault cs (Objections k) = ⊥
 
-abbrev pub SettledAs : List Card → (n m : ℕ) → (objectors' : List ℕ) → Reading → Type 0
-SettledAs cs n m objectors' (Whole n' m') =
-    Each (NamesListed cs) cs × Each NamesOnce cs × (length (written (register_of cs)) ≤ 65535) × (n' ≡ n) × (m' ≡ m)
-    × (take m objectors' ≡ objectors_of (register_of cs))
-SettledAs cs n m objectors' (Refused r) = OverallFault cs r
+abbrev pub SettledAs : List Card → (objectors' : List ℕ) → Result Unit TextFault → Type 0
+SettledAs cs objectors' (Ok _) =
+    Each (NamesListed cs) cs × Each NamesOnce cs × (length (written (register_of cs)) ≤ 65535)
+    × (objectors' ≡ objectors_of (register_of cs))
+SettledAs cs objectors' (Err r) = OverallFault cs r

@@ -1,1 +1,2 @@
+pub mod CatalogueReadAs
 pub mod CatalogueState

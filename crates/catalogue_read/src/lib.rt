@@ -7,39 +7,20 @@
 // field comes before there being too many.
 #![tactic(auto)]
 
-ghost use Rattle.std.specs.Prelude.{List, ◌≡◌, ◌≤◌, ◌<◌, ◌+◌, ℕ, length, set, get_or};
-ghost use Rattle.register_index.specs.Indexed.{Indexed};
+ghost use Rattle.std.specs.Prelude.{List, ◌≡◌, ◌≤◌, ◌<◌, ◌+◌, ℕ, length, set, get_or, MatchOption, MatchResult};
+ghost use Rattle.register_index.specs.IndexAt.{IsIndexed, SameParts};
 ghost use Rattle.register.specs.Reads.{NotEnded};
 ghost use Rattle.catalogue.specs.Cards.{Card};
-ghost use Rattle.register_read.specs.ReadState.{Spacious, InStep, Absent};
+ghost use Rattle.register_read.specs.ReadState.{Spacious, InStep, CountedOn, Absent};
+ghost use Rattle.catalogue_read.specs.CatalogueReadAs.{CatalogueReadAs};
 ghost use Rattle.catalogue_read.specs.CatalogueState.{HeadAt, FieldsAt, CardAt, CardTaken, Filed, FirstLine, PlacedAt};
 ghost use Rattle.catalogue_read.specs.CatalogueState.{Twice, InLine, SettledAs, CatalogueReadsTo};
 
-use pair_chain::place;
-use register::{Mark, StatementLine, TextFault};
-use register_number::{NumberRead, byte_at, number_at};
-use register_read::{Reading, Taken};
-
-// A statement and its mark, and the place behind them.
-#[derive(Drop)]
-pub enum HeadRead {
-    Head(StatementLine, usize),
-    NoHead,
-}
-
-// How many objectors all lines have named by now, and where the next line starts.
-#[derive(Drop)]
-pub enum FieldsRead {
-    Fields(usize, usize),
-    NoFields,
-}
-
-// A line: the statement, and both of these.
-#[derive(Drop)]
-pub enum CardRead {
-    CardOf(StatementLine, usize, usize),
-    NoCard,
-}
+use lists::{NumberedPairs, Pairs};
+use register::{StatementLine, TextFault};
+use register_index::NumberIndex;
+use register_number::{byte_at, number_at};
+use register_read::RegisterRooms;
 
 // The number of the line after n others.
 fn line_after(n: usize) -> u32
@@ -49,40 +30,23 @@ fn line_after(n: usize) -> u32
     (n + 1) as u32
 }
 
-// What stands on a line before its objectors: `S`, tab, number, tab, mark.
-fn head_at(text: &[u8], at: usize) -> HeadRead
+// What stands on a line before its objectors: `S`, tab, number, tab, mark. Answers the statement, and the place behind its mark.
+fn head_at(text: &[u8], at: usize) -> Option<(StatementLine, usize)>
     requires { at < length text.now }
     ensures { HeadAt text.now at result }
 {
     if byte_at(text, at) != 83 {
-        return HeadRead::NoHead;
+        return None;
     }
     if byte_at(text, at + 1) != 9 {
-        return HeadRead::NoHead;
+        return None;
     }
-    let NumberRead::Value(number, end) = number_at(text, at + 2) else {
-        return HeadRead::NoHead;
-    };
+    let (number, end) = number_at(text, at + 2)?;
     if byte_at(text, end) != 9 {
-        return HeadRead::NoHead;
+        return None;
     }
-    match byte_at(text, end + 1) {
-        82 => HeadRead::Head(
-            StatementLine {
-                number,
-                mark: Mark::Read,
-            },
-            end + 2,
-        ),
-        85 => HeadRead::Head(
-            StatementLine {
-                number,
-                mark: Mark::Unread,
-            },
-            end + 2,
-        ),
-        _ => HeadRead::NoHead,
-    }
+    let mark = register_line::mark_of(byte_at(text, end + 1))?;
+    Some((StatementLine { number, mark }, end + 2))
 }
 
 // Puts a value at a place of a room, if the room reaches so far.
@@ -95,7 +59,8 @@ fn put(room: &mut [u32], k: usize, value: u32)
     room[k] = value;
 }
 
-// The objectors of a line, after m others, each behind a tab, to the end of the line. The statement's place is n.
+// The objectors of a line, after m others, each behind a tab, to the end of the line. The statement's place is n. Answers how
+// many objectors all lines have named by now, and where the next line starts.
 fn fields_at(
     text: &[u8],
     at: usize,
@@ -103,7 +68,7 @@ fn fields_at(
     targets: &mut [u32],
     n: usize,
     m: usize,
-) -> FieldsRead
+) -> Option<(usize, usize)>
     requires { (length text.now ≤ 65535) × (at ≤ length text.now) × (n ≤ 1024) × (m ≤ 4096) }
     ensures { FieldsAt text.now at n m objectors.old targets.old
         objectors.new targets.new result }
@@ -113,21 +78,19 @@ fn fields_at(
     let mut count = m;
     // From `at` to `end` stand fields, each an objector, and with them the rooms hold `count`, as far as they reach.
     while byte_at(text, end) == 9 {
-        let NumberRead::Value(number, next) = number_at(text, end + 1) else {
-            return FieldsRead::NoFields;
-        };
+        let (number, next) = number_at(text, end + 1)?;
         put(objectors, count, number);
         put(targets, count, target);
         count += 1;
         end = next;
     }
     if byte_at(text, end) != 10 {
-        return FieldsRead::NoFields;
+        return None;
     }
-    FieldsRead::Fields(count, end + 1)
+    Some((count, end + 1))
 }
 
-// A line: a statement, and its objectors after m others.
+// A line: a statement, and its objectors after m others. Answers the statement, and what `fields_at` answers.
 fn card_at(
     text: &[u8],
     at: usize,
@@ -135,182 +98,188 @@ fn card_at(
     targets: &mut [u32],
     n: usize,
     m: usize,
-) -> CardRead
+) -> Option<(StatementLine, usize, usize)>
     requires { (length text.now ≤ 65535) × (at < length text.now) × (n ≤ 1024) × (m ≤ 4096) }
     ensures { CardAt text.now at n m objectors.old targets.old
         objectors.new targets.new result }
 {
-    let HeadRead::Head(statement, end) = head_at(text, at) else {
-        return CardRead::NoCard;
-    };
-    let FieldsRead::Fields(count, next) = fields_at(text, end, objectors, targets, n, m) else {
-        return CardRead::NoCard;
-    };
-    CardRead::CardOf(statement, count, next)
+    let (statement, end) = head_at(text, at)?;
+    let (count, next) = fields_at(text, end, objectors, targets, n, m)?;
+    Some((statement, count, next))
 }
 
 // Takes the statement of a line after n others, with which there are `count` objectors: 6, 5, 9, or kept.
 fn take_card(
-    numbers: &mut [u32],
+    index: &mut NumberIndex,
     marks: &mut [u8],
-    links: &mut [u16],
-    n: usize,
     count: usize,
     statement: StatementLine,
-) -> Taken
-    requires n_bound { (n ≤ 1024) × (1024 ≤ length numbers.old) × (1024 ≤ length marks.old) }
-    requires indexed { Indexed numbers.old n links.old }
-    ensures { CardTaken numbers.old marks.old n count statement numbers.new
-        marks.new result × InStep numbers.new n links.new result }
+) -> Result<(), TextFault>
+    requires room { (1024 ≤ length index.old.numbers.now) × (1024 ≤ length marks.old) }
+    requires indexed { IsIndexed index.old }
+    ensures taken { CardTaken index.old.numbers.now marks.old index.old.n count statement index.new.numbers.now marks.new result }
+    ensures in_step { InStep index.new.numbers.now index.old.n index.new.links.now result }
+    ensures count { CountedOn index.old.n index.new.n result }
+    ensures same { SameParts index.old index.new }
 {
+    let n = index.n;
     if n >= 1024 {
-        return Taken::AtFault(TextFault::Statements(line_after(n)));
+        return Err(TextFault::Statements(line_after(n)));
     }
-    let number = statement.number;
-    if register_index::look_up(numbers, n, links, number) < n {
-        return Taken::AtFault(TextFault::Issued(line_after(n)));
+    let StatementLine { number, mark } = statement;
+    if register_index::look_up(index, number).is_some() {
+        return Err(TextFault::Issued(line_after(n)));
     }
     if count > 4096 {
-        return Taken::AtFault(TextFault::Objections(line_after(n)));
+        return Err(TextFault::Objections(line_after(n)));
     }
-    let mark = statement.mark;
-    register_index::enter(numbers, n, links, number);
+    register_index::enter(index, number);
     marks[n] = register_line::mark_number(mark);
-    Taken::Kept
+    Ok(())
 }
 
-// Turns the numbers of m objectors into places, and answers 0, or the earliest line that names a number which none lists.
-fn place_objectors(
-    numbers: &[u32],
-    links: &[u16],
-    objectors: &mut [u32],
-    targets: &[u32],
-    n: usize,
-    m: usize,
-) -> u32
-    requires { Indexed numbers.now n links.now × (m ≤ length objectors.old) × InLine targets.now m }
-    ensures { FirstLine (λ j. PlacedAt numbers.now n objectors.old objectors.new j)
-        (λ j. Absent numbers.now n (get_or objectors.old j 0)) targets.now m result }
+// Turns the objectors' numbers into places, or answers the earliest line that names a number which none lists.
+fn place_objectors(index: &NumberIndex, objectors: &mut [u32], targets: &[u32]) -> Result<(), u32>
+    requires { IsIndexed index.now × InLine targets.now (length objectors.old) }
+    ensures { MatchResult result
+        (λ _. (j : ℕ) → j < length objectors.old → PlacedAt index.now.numbers.now index.now.n objectors.old objectors.new j)
+        (FirstLine (λ j. PlacedAt index.now.numbers.now index.now.n objectors.old objectors.new j)
+        (λ j. Absent index.now.numbers.now index.now.n (get_or objectors.old j 0)) targets.now (length objectors.old)) }
 {
-    let mut k = 0;
     // The first k objectors are places; the others are still numbers.
-    while k < m {
-        let x = place(targets[k]);
-        let y = register_index::look_up(numbers, n, links, objectors[k]);
-        if y >= n {
-            return line_after(x);
-        }
+    for k in 0..objectors.len() {
+        let x = targets[k] as usize;
+        let Some(y) = register_index::look_up(index, objectors[k]) else {
+            return Err(line_after(x));
+        };
         objectors[k] = y as u32;
-        k += 1;
     }
-    0
+    Ok(())
 }
 
-// Answers 0, or the earliest line that names an objector twice. `last` has an entry for each statement, 0 at first.
-fn repeat_line(objectors: &[u32], targets: &[u32], m: usize, last: &mut [u32]) -> u32
-    requires m_in_bounds { (m ≤ length objectors.now) × InLine targets.now m }
-    requires by_index { (k : ℕ) → k < m → get_or objectors.now k 0 < length last.old }
-    requires by_index_2 { (y : ℕ) → get_or last.old y 0 ≡ 0 }
-    ensures { FirstLine (λ j. ¬ Twice objectors.now targets.now j)
-        (λ j. Twice objectors.now targets.now j) targets.now m result }
+// The earliest line that names an objector twice, if one does. `last` has an entry for each statement, the last line that named
+// it, and 0, the number of no line, at first: an Option would take twice the room.
+fn repeat_line(objectors: &[u32], targets: &[u32], last: &mut [u32]) -> Option<u32>
+    requires in_line { InLine targets.now (length objectors.now) }
+    requires places { (k : ℕ) → k < length objectors.now → get_or objectors.now k 0 < length last.old }
+    requires none_named { (y : ℕ) → get_or last.old y 0 ≡ 0 }
+    ensures { MatchOption result ((j : ℕ) → j < length objectors.now → ¬ Twice objectors.now targets.now j)
+        (FirstLine (λ j. ¬ Twice objectors.now targets.now j)
+        (λ j. Twice objectors.now targets.now j) targets.now (length objectors.now)) }
 {
-    let mut k = 0;
     // None of the first k is named twice on a line, and `last` has for each statement the last line that named it.
-    while k < m {
+    for (k, &y) in objectors.iter().enumerate() {
         let line = targets[k] + 1;
-        let y = place(objectors[k]);
-        if last[y] == line {
-            return line;
+        if last[y as usize] == line {
+            return Some(line);
         }
-        last[y] = line;
-        k += 1;
+        last[y as usize] = line;
     }
-    0
+    None
 }
 
 // What is asked over all lines: 7, then 8, then whether the old form is too long. Leaves the objectors by place.
-fn settle(
-    numbers: &[u32],
-    links: &[u16],
-    objectors: &mut [u32],
-    targets: &[u32],
-    n: usize,
-    m: usize,
-) -> Reading
-    requires filed { (cs : List Card) × Filed cs n m numbers.now objectors.old targets.now }
-    requires indexed { Indexed numbers.now n links.now × (m ≤ length objectors.old) × (m ≤ length targets.now) }
-    ensures { (cs : List Card) → Filed cs n m numbers.now objectors.old targets.now
-        → SettledAs cs n m objectors.new result }
+fn settle(index: &NumberIndex, objectors: &mut [u32], targets: &[u32]) -> Result<(), TextFault>
+    requires filed { (cs : List Card) × Filed cs index.now.n (length objectors.old) index.now.numbers.now objectors.old
+        targets.now }
+    requires indexed { IsIndexed index.now × (length targets.now ≡ length objectors.old) }
+    ensures { (cs : List Card)
+        → Filed cs index.now.n (length objectors.old) index.now.numbers.now objectors.old targets.now
+        → SettledAs cs objectors.new result }
 {
-    let unknown = place_objectors(numbers, links, objectors, targets, n, m);
-    if unknown != 0 {
-        return Reading::Refused(TextFault::Unknown(unknown));
+    if let Err(line) = place_objectors(index, objectors, targets) {
+        return Err(TextFault::Unknown(line));
     }
     let mut last = [0u32; 1024];
-    let repeated = repeat_line(objectors, targets, m, &mut last);
-    if repeated != 0 {
-        return Reading::Refused(TextFault::Repeated(repeated));
+    if let Some(line) = repeat_line(objectors, targets, &mut last) {
+        return Err(TextFault::Repeated(line));
     }
-    if register_write::register_size(&numbers[..n], &objectors[..m], &targets[..m]) > 65535 {
-        return Reading::Refused(TextFault::TooLong);
+    if register_write::register_size(&index.numbers[..index.n], objectors, targets) > 65535 {
+        return Err(TextFault::TooLong);
     }
-    Reading::Whole(n, m)
+    Ok(())
 }
 
 // Reads a text that is short enough and ended, line by line, and keeps an index of the numbers; then settles what is asked over
 // all lines.
 fn read_cards(
     text: &[u8],
-    numbers: &mut [u32],
+    index: &mut NumberIndex,
     marks: &mut [u8],
     objectors: &mut [u32],
     targets: &mut [u32],
-    links: &mut [u16],
-) -> Reading
-    requires text_len_bound { (length text.now ≤ 65535) × (¬ NotEnded text.now) }
-    requires spacious { Spacious numbers.old marks.old objectors.old targets.old }
-    requires indexed { Indexed numbers.old 0 links.old }
-    ensures { CatalogueReadsTo text.now numbers.new marks.new objectors.new
-        targets.new result }
+) -> Result<(usize, usize), TextFault>
+    requires ended { (length text.now ≤ 65535) × (¬ NotEnded text.now) }
+    requires spacious { Spacious index.old.numbers.now marks.old objectors.old targets.old }
+    requires indexed { (index.old.n ≡ 0) × IsIndexed index.old }
+    ensures lists { CatalogueReadsTo text.now index.new.numbers.now marks.new objectors.new targets.new result }
+    ensures same { SameParts index.old index.new }
 {
     let mut at = 0;
-    let mut n = 0;
     let mut m = 0;
-    // The lines before `at` are n sound cards with m objectors; the rooms hold them, and their numbers are indexed.
+    // The lines before `at` are `index.n` sound cards with m objectors; the rooms hold them, and their numbers are indexed.
     while at < text.len() {
-        let CardRead::CardOf(statement, count, next) = card_at(text, at, objectors, targets, n, m)
-        else {
-            return Reading::Refused(TextFault::Spoiled(line_after(n)));
-        };
-        let taken = take_card(numbers, marks, links, n, count, statement);
-        if let Taken::AtFault(fault) = taken {
-            return Reading::Refused(fault);
-        }
-        n += 1;
+        let spoiled = TextFault::Spoiled(line_after(index.n));
+        let (statement, count, next) = card_at(text, at, objectors, targets, index.n, m).ok_or(
+            spoiled,
+        )?;
+        take_card(index, marks, count, statement)?;
         m = count;
         at = next;
     }
-    settle(numbers, links, objectors, targets, n, m)
+    settle(index, &mut objectors[..m], &targets[..m])?;
+    Ok((index.n, m))
 }
 
-// Reads a catalogue into rooms for 1,024 statements and 4,096 objections.
+// Reads a catalogue into rooms for 1,024 statements and 4,096 objections. Answers how many of each there are.
 pub fn read(
     text: &[u8],
     numbers: &mut [u32],
     marks: &mut [u8],
     objectors: &mut [u32],
     targets: &mut [u32],
-) -> Reading
+) -> Result<(usize, usize), TextFault>
     requires { Spacious numbers.old marks.old objectors.old targets.old }
     ensures { CatalogueReadsTo text.now numbers.new marks.new objectors.new
         targets.new result }
 {
     if text.len() > 65535 {
-        return Reading::Refused(TextFault::TooLong);
+        return Err(TextFault::TooLong);
     }
-    if register_read::ended(text) {
-        let mut links = [0u16; 8200];
-        return read_cards(text, numbers, marks, objectors, targets, &mut links);
+    if !register_read::ended(text) {
+        return Err(TextFault::Unended);
     }
-    Reading::Refused(TextFault::Unended)
+    let mut links = [0u16; 8200];
+    let mut index = NumberIndex {
+        numbers,
+        links: &mut links,
+        n: 0,
+    };
+    read_cards(text, &mut index, marks, objectors, targets)
+}
+
+// Reads a catalogue into rooms that are one value, and answers the lists that it makes. Not one with that of `register_read`: a
+// function that took what reads the lines would have to take its promise as well, and be longer than both.
+pub fn read_catalogue<'a>(
+    text: &[u8],
+    rooms: &'a mut RegisterRooms,
+) -> Result<NumberedPairs<'a>, TextFault>
+    ensures { CatalogueReadAs text.now result }
+{
+    let (n, m) = read(
+        text,
+        &mut rooms.numbers,
+        &mut rooms.marks,
+        &mut rooms.objectors,
+        &mut rooms.targets,
+    )?;
+    let pairs = Pairs {
+        marks: &rooms.marks[..n],
+        objectors: &rooms.objectors[..m],
+        targets: &rooms.targets[..m],
+    };
+    Ok(NumberedPairs {
+        numbers: &rooms.numbers[..n],
+        pairs,
+    })
 }

@@ -1,18 +1,13 @@
 -- A card put piece by piece, and how long it is.
 use mathlib.Core.List.{List, append_assoc, [], ◌∷◌, ◌++◌}
-use mathlib.Core.Path.{ap, subst, sym, ◌≡◌}
+use mathlib.Core.Path.{subst, sym, ◌≡◌}
 use Prim.Native.Nat.{ℕ, ◌+◌}
 use native.Mathlib.Omega.{arith}
 use lib.ListN.{length, length-append, get_or}
 use Rattle.register.specs.Number.{number_bytes}
 use Rattle.room_write.specs.Writing.{RoomFor, Put}
 use Rattle.room_write.proofs.Writing.{put_behind, fits_before}
-use Rattle.catalogue_write.specs.CatalogueRows.{field_text, fields_text, mark_tab, card_begin, card_text}
-
--- by the place of the objector
-pub field_length_lem : (nums objectors : List ℕ) (e : ℕ) {y : ℕ} → y ≡ get_or objectors e 0
-    → length (field_text nums objectors e) ≡ length (number_bytes (get_or nums y 0)) + 1
-field_length_lem nums objectors e p = omega (arith, ap (λ i. length (number_bytes (get_or nums i 0))) p)
+use Rattle.catalogue_write.specs.CatalogueRows.{fields_text, mark_tab, card_begin, card_text}
 
 pub begin_length : (number mark : ℕ) → length (card_begin number mark) ≡ length (number_bytes number) + 4
 begin_length number mark = omega (arith, length-append (number_bytes number) (mark_tab mark))
@@ -29,13 +24,6 @@ module _ (nums marks objectors targets : List ℕ) (x : ℕ) where
       )
 
 module _ (room : List ℕ) (at : ℕ) where
-  pub field_put : (nums objectors : List ℕ) (e : ℕ) {y e₁ e₂ : ℕ} {r₁ r₂ : List ℕ} → y ≡ get_or objectors e 0
-      → RoomFor room at (field_text nums objectors e) → Put room at (9 ∷ []) e₁ r₁
-      → Put r₁ e₁ (number_bytes (get_or nums y 0)) e₂ r₂ → Put room at (field_text nums objectors e) e₂ r₂
-  field_put nums objectors e {e₁ = e₁} {e₂ = e₂} {r₁ = r₁} {r₂ = r₂} p h a b =
-      put_behind room at (9 ∷ []) (number_bytes (get_or nums (get_or objectors e 0) 0)) h a
-      (subst (λ i. Put r₁ e₁ (number_bytes (get_or nums i 0)) e₂ r₂) p b)
-
   pub begin_put : (number mark : ℕ) {e₁ e₂ e₃ : ℕ} {r₁ r₂ r₃ : List ℕ} → RoomFor room at (card_begin number mark)
       → Put room at (83 ∷ 9 ∷ []) e₁ r₁ → Put r₁ e₁ (number_bytes number) e₂ r₂ → Put r₂ e₂ (mark_tab mark) e₃ r₃
       → Put room at (card_begin number mark) e₃ r₃

@@ -76,3 +76,6 @@ module _ (nums objectors : List ℕ) where
             begin_length (get_or nums x 0) (get_or marks x 0),
             statement_length (get_or nums x 0) (get_or marks x 0),
           )
+
+-- what the fields' size is added up by
+pub ruleset sizes = (number_small, no_rows, rows_longer, fields_small)

@@ -125,15 +125,3 @@ pub lists_catalogued : (R : Register) (nums marks objectors targets : List ℕ) 
     → catalogued_lists nums marks objectors targets ≡ catalogued R
 lists_catalogued R nums marks objectors targets made =
     rw (made.numbers_are, made.marks_are, made.objectors_are, made.targets_are) (own_catalogue R made.valid)
-
--- and has as many marks as numbers
-pub made_marked : (R : Register) (nums marks objectors targets : List ℕ) → Made R nums marks objectors targets
-    → length marks ≡ length nums
-made_marked R nums marks objectors targets made =
-    omega (
-      arith,
-      ap length made.marks_are,
-      ap length made.numbers_are,
-      marks_counted R made.valid,
-      numbers_counted R,
-    )

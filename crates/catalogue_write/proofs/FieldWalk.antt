@@ -76,6 +76,3 @@ module _ {nums objectors targets head next : List ℕ} (w : Writable nums object
           further.0,
           subst (λ u. Put room at u end room') (ap (λ n. rows_to n row) more ∙ further.1) put,
         )
-
-    pub walk_lower : {d : ℕ} → d ≡ get_or next (c - 1) 0 → d < c
-    walk_lower p = omega (arith, (latest_next p).low)

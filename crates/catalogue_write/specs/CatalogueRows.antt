@@ -1,7 +1,9 @@
 -- The catalogue of the register that lists hold: numbers and marks in listed order, objectors and targets by place. What a card
 -- is, and which lists a register makes, is for others to say. For the code that writes, not for callers of the product.
 use Rattle.std.specs.Prelude.{cond, List, [], ◌∷◌, ◌++◌, ◌≡◌, ℕ, ◌+◌, ◌≤◌, eqb, get_or, length}
+use Rattle.lists.specs.declared.in_order.NumberedPairs.{NumberedPairs}
 use Rattle.pair_chain.specs.Linked.{Linked}
+use Rattle.pair_chain.specs.declared.Links.{Links}
 use Rattle.register.specs.Lines.{mark_byte}
 use Rattle.register.specs.Number.{number_bytes}
 use Rattle.register.specs.Texts.{rows_to}
@@ -53,3 +55,19 @@ pub record Writable (nums objectors targets head next : List ℕ) : Type 0 where
   pub copyable : Copyable nums objectors targets
   pub chained : ChainedBack targets head next
   pub head_room : length nums ≤ length head
+
+-- The same of a register that is lent as one value: its fields and cards, and its chains.
+abbrev pub register_field : NumberedPairs → ℕ → List ℕ
+register_field r = field_text r.numbers.now r.pairs.objectors.now
+
+abbrev pub register_fields : NumberedPairs → ℕ → List ℕ
+register_fields r = fields_text r.numbers.now r.pairs.objectors.now r.pairs.targets.now
+
+abbrev pub register_card : NumberedPairs → ℕ → List ℕ
+register_card r = card_text r.numbers.now r.pairs.marks.now r.pairs.objectors.now r.pairs.targets.now
+
+abbrev pub register_cards : NumberedPairs → List ℕ
+register_cards r = catalogued_lists r.numbers.now r.pairs.marks.now r.pairs.objectors.now r.pairs.targets.now
+
+abbrev pub Chained : NumberedPairs → Links → Type 0
+Chained r links = Writable r.numbers.now r.pairs.objectors.now r.pairs.targets.now links.head.now links.next.now

@@ -24,7 +24,7 @@ use Rattle.catalogue.proofs.Regrouped.{cards_back, cards_valid, cards_sound, car
 use Rattle.catalogue.proofs.Sizes.{grouped_length}
 use Rattle.catalogue.proofs.ThereAndBack.{catalogue_accepted_lem}
 use Rattle.answer.specs.declared.Refusal.TheVariants.{Text}
-use Rattle.answer.specs.declared.Answer.TheVariants.{Refused}
+use Rattle.std.specs.Prelude.{Err}
 use Rattle.examples.specs.Limits.{text_of}
 use Rattle.examples.specs.CatalogueTable.{CatalogueLimits, card_with}
 use Rattle.examples.proofs.Limits.{limits_hold}
@@ -147,9 +147,9 @@ crowd_short = leb→le (length (cards_bytes crowd)) 65535 tt
 
 pub catalogue_limits_hold : CatalogueLimits
 catalogue_limits_hold = record {
-  long = λ s room h. (Refused (Text TooLong), (inl (TooLong, inl h, refl), refl), refl);
+  long = λ s room h. (Err (Text TooLong), (inl (TooLong, inl h, refl), refl), refl);
   old_form_long = λ R room v h. (
-    Refused (Text TooLong),
+    Err (Text TooLong),
     (
       inl (
         TooLong,
@@ -172,7 +172,7 @@ catalogue_limits_hold = record {
   );
   statement_more = λ R c room v full w fits.
       let n : length (cards R) ≡ 1024 = length-map R.statements (card_of R) ∙ full in (
-        Refused (Text (Statements 1025)),
+        Err (Text (Statements 1025)),
         (
           inl (Statements 1025, reached (cards R) c (cards_sound R v) w fits 1025 _ (omega (arith, n)) (omega (arith, n)), refl),
           refl,
@@ -181,7 +181,7 @@ catalogue_limits_hold = record {
       );
   objectors = let (R, a) = limits_hold.objections in (R, a, (grouped R, catalogue_accepted_lem (text_of 65 4096) R a));
   objector_more = λ ys zs room f g few many. (
-    Refused (Text (Objections 2)),
+    Err (Text (Objections 2)),
     (inl (Objections 2, past_objectors ys zs f g few many, refl), refl),
     refl,
   );

@@ -15,7 +15,7 @@ use Rattle.catalogue.specs.Regrouped.{against, catalogued, all_objections}
 use Rattle.catalogue.specs.CatalogueReads.{CatalogueAccepts}
 use Rattle.catalogue.proofs.CardGuess.{guess_objectors, guess_behind, guess_card, numbers_test, card_test, spoiled_card_test}
 use Rattle.answer.specs.Answer.{Short, Written}
-use Rattle.answer.specs.declared.Answer.{Answer}
+use Rattle.answer.specs.Answer.{Answer}
 use Rattle.promises.specs.CatalogueCalls.{TextCatalogue, CatalogueText, CatalogueRefused}
 use Rattle.examples.specs.Table.{ascii, in_parts, Every}
 use Rattle.examples.specs.CatalogueTable.{CatalogueRow, catalogue, uncatalogue, OnFormSays, catalogue_table}

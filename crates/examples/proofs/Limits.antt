@@ -27,7 +27,7 @@ use Rattle.register.proofs.TextRows.{row_first, rows_within}
 use Rattle.register.proofs.OneMore.{bytes_append, empty_valid}
 use Rattle.register.proofs.Unique.{lines_ended}
 use Rattle.answer.specs.declared.Refusal.TheVariants.{Text}
-use Rattle.answer.specs.declared.Answer.TheVariants.{Refused}
+use Rattle.std.specs.Prelude.{Err}
 use Rattle.listing.specs.Rows.{numbers_row}
 use Rattle.examples.specs.Table.{ascii}
 use Rattle.examples.specs.Limits.{Limits, statement_at, objection_at, text_of}
@@ -225,9 +225,9 @@ pub limits_hold : Limits
 unfolding ascii numbers_row decimal decimal_in bytes
 limits_hold = record {
   long = λ s h. inr (TooLong, h, refl);
-  long_answered = λ s room h. (Refused (Text TooLong), (inl (TooLong, h, refl), refl), refl);
+  long_answered = λ s room h. (Err (Text TooLong), (inl (TooLong, h, refl), refl), refl);
   long_mended = λ s h. (h, refl);
-  long_mend_answered = λ s lent h. (Refused (Text TooLong), (inl (h, refl), refl), refl);
+  long_mend_answered = λ s lent h. (Err (Text TooLong), (inl (h, refl), refl), refl);
   not_long = inr (Spoiled 1, blank 65534 (lit≤ tt), refl);
   statements = (R 1024 0, text_accepted_lem 1024 0 (lit≤ tt) (lit≤ tt) none);
   statement_more = λ st w. inr (

@@ -17,7 +17,7 @@ use Rattle.lists.specs.declared.ListsFault.TheVariants.{Unequal, Statements, Obj
 use Rattle.lists.proofs.Refuses.{accepted}
 use Rattle.answer.specs.declared.Refusal.{Refusal}
 use Rattle.answer.specs.declared.Refusal.TheVariants as refusal
-use Rattle.answer.specs.declared.Answer.{Answer}
+use Rattle.answer.specs.Answer.{Answer}
 use Rattle.answer.specs.Answer.{Short, Asks}
 use Rattle.promises.specs.OnLists.{ListsRefused, OnLists}
 use Rattle.promises.specs.LabelCalls.{PairsStatements, PairsLabels, PairsLengths, MovesLabels, MovesLengths, StatementsIn}

@@ -13,7 +13,7 @@ use Rattle.register.proofs.Number.{number_test, spell_number}
 use Rattle.answer.specs.Answer.{Short, Written}
 use Rattle.answer.specs.declared.Refusal.{Refusal}
 use Rattle.answer.specs.declared.Refusal.TheVariants.{Text, Lists, Room, Asked, Turns, Sheet}
-use Rattle.answer.specs.declared.Answer.{Answer}
+use Rattle.answer.specs.Answer.{Answer}
 use Rattle.promises.specs.NumberCalls.{Names, NamesNone, IsNobodys, NumberCode, NumberText}
 use Rattle.examples.specs.Table.{ascii, Every}
 use Rattle.examples.specs.NumberTable.{NumberRow, code, text, OnNumberSays, number_table}

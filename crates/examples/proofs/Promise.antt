@@ -12,8 +12,8 @@ use lib.ListN.{length, get_or, drop, get_or-eq_default}
 use Rattle.register.specs.declared.TextFault.{TextFault}
 use Rattle.answer.specs.declared.Refusal.{Refusal}
 use Rattle.answer.specs.declared.Refusal.TheVariants.{Text, Lists, Room, Asked, Turns, Sheet}
-use Rattle.answer.specs.declared.Answer.{Answer}
-use Rattle.answer.specs.declared.Answer.TheVariants.{Refused, Given}
+use Rattle.answer.specs.Answer.{Answer}
+use Rattle.std.specs.Prelude.{Ok, Err}
 use Rattle.answer.specs.declared.CAnswer.{CAnswer}
 use Rattle.answer.specs.Answer.{OnInput, Begins, Written, Short, Asks}
 use Rattle.answer.specs.InC.{in_c, InC}
@@ -26,9 +26,9 @@ module _ {Made Rooms : Type 0} (accepts : Made → Type 0) (refuses : Refusal �
     (refuse : (r : Refusal) → Test (refuses r)) (late : (r : Refusal) → Test (accepts m → later m r))
     (give : (n : ℕ) (after : Rooms) → Test (accepts m → gives m n after)) (found : (after : Rooms) → Test (after ≡ rooms)) where
   abbrev pub on_input : (a : Answer) (after : Rooms) → Test (OnInput accepts refuses later gives rooms a after)
-  on_input (Refused r) after =
+  on_input (Err r) after =
       both_of (either_of (refuse r) (so (λ (p : accepts m × later m r). (m, p.0, p.1)) (under accept (late r)))) (found after)
-  on_input (Given n) after = so (λ (p : accepts m × gives m n after). (m, p.0, p.1)) (under accept (give n after))
+  on_input (Ok n) after = so (λ (p : accepts m × gives m n after). (m, p.0, p.1)) (under accept (give n after))
 
 -- a text is refused for the fault that it has
 abbrev pub for_fault : {Refuses : TextFault → Type 0} → ((f : TextFault) → Test (Refuses f)) → (r : Refusal)
@@ -42,7 +42,7 @@ for_fault test Sheet = never
 
 -- The answer as C gets it. Which answer the two numbers tell, `refusal` says of the refused ones.
 abbrev pub answer_by : (refusal : (number place : ℕ) → Refusal) → CAnswer → Answer
-answer_by refusal c = cond (eqb c.refusal 0) (Given c.value) (Refused (refusal c.refusal c.value))
+answer_by refusal c = cond (eqb c.refusal 0) (Ok c.value) (Err (refusal c.refusal c.value))
 
 module _ (P : Answer → Type 0) (refusal : (number place : ℕ) → Refusal) (c : CAnswer) where
   abbrev pub in_numbers : ((a : Answer) → Test (P a)) → Test (InC P c)

@@ -23,7 +23,7 @@ use Rattle.register.proofs.Guess.{field, behind, guess_mark, guess_fields, guess
 use Rattle.register.proofs.Guess.{spoiled_test}
 use Rattle.answer.specs.declared.Refusal.{Refusal}
 use Rattle.answer.specs.declared.Refusal.TheVariants as refusal
-use Rattle.answer.specs.declared.Answer.{Answer}
+use Rattle.answer.specs.Answer.{Answer}
 use Rattle.answer.specs.Answer.{Short, Asks, Written}
 use Rattle.listing.specs.Rows.{statement_row, numbers_row, objection_row}
 use Rattle.listing.specs.Listing.{objection_rows, statement_rows}

@@ -4,47 +4,34 @@
 #![tactic(auto)]
 
 ghost use Rattle.std.specs.Prelude.{◌<◌, ◌≤◌, length};
-ghost use Rattle.game.specs.Book.{book_of};
-ghost use Rattle.lists.specs.Handed.{Handed};
 ghost use Rattle.game.specs.Exercise.{Answered};
+ghost use Rattle.lists.specs.PairsBook.{pairs_book};
 
-use exercise_within::{falls_within, stands_within};
-use pair_chain::chain;
+use exercise_within::{Entry, Tables, falls_within, stands_within};
+use lists::Pairs;
+use pair_chain::{Links, chain};
 
-// What the exercise answers of the statement at place x: 2 falls within the turns, 1 stands within them, 0 neither.
-pub fn answer(marks: &[u8], objectors: &[u32], targets: &[u32], x: usize, turns: usize) -> u32
-    requires { Handed marks.now objectors.now targets.now × (x < length marks.now) × (turns ≤ 6) }
-    ensures { Answered (book_of marks.now objectors.now targets.now) x turns result }
+// What the exercise answers of the statement at place x: 2 falls within the turns, 1 stands within them, 0 neither. It stays a
+// number, since the call from C hands on this very number.
+pub fn answer(pairs: &Pairs, x: usize, turns: usize) -> u32
+    requires { (x < length pairs.now.marks.now) × (turns ≤ 6) }
+    ensures { Answered (pairs_book pairs.now) x turns result }
 {
     let mut head = [0u16; 1024];
     let mut next = [0u16; 4096];
-    let mut falls = [0u8; 7168];
-    let mut stands = [0u8; 7168];
-    chain(targets, &mut head, &mut next);
-    if falls_within(
-        marks,
-        objectors,
-        targets,
-        &head,
-        &next,
-        x,
-        turns,
-        &mut falls,
-        &mut stands,
-    ) {
+    let mut tables = Tables {
+        falls: [Entry::Unknown; 7168],
+        stands: [Entry::Unknown; 7168],
+    };
+    chain(pairs.targets, &mut head, &mut next);
+    let links = Links {
+        head: &head,
+        next: &next,
+    };
+    if falls_within(pairs, &links, x, turns, &mut tables) {
         return 2;
     }
-    if stands_within(
-        marks,
-        objectors,
-        targets,
-        &head,
-        &next,
-        x,
-        turns,
-        &mut falls,
-        &mut stands,
-    ) {
+    if stands_within(pairs, &links, x, turns, &mut tables) {
         return 1;
     }
     0

@@ -25,9 +25,9 @@ module _ (target objector length : ℕ) (e : Ends target objector length) where
       ∙ kind_by_lem e.target_told.verdict e.objector_told.verdict
 
   -- At the place t, o of the table.
-  module _ (t o : ℕ) (at_Target : target ≡ t) (at-objector : objector ≡ o) where
+  module _ (t o : ℕ) (at_target : target ≡ t) (at-objector : objector ≡ o) where
     here : kind_by t o length ≡ kind_of e.target_told.verdict e.objector_told.verdict
-    here = ap₂ (λ a b. kind_by a b length) (sym at_Target) (sym at-objector) ∙ told
+    here = ap₂ (λ a b. kind_by a b length) (sym at_target) (sym at-objector) ∙ told
 
     pub kind_at : (κ : Kind) → kind_by t o length ≡ some κ → OfKind e.book e.y e.x κ
     kind_at κ h = record {

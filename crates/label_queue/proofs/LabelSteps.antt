@@ -124,9 +124,6 @@ module _ (marks objectors targets labels lengths : List ℕ) (x k : ℕ) (hl : x
           × (get_or (set lengths x k) y 0 ≡ get_or lengths y 0)
       kp = kept labels lengths x 1 k hl hn z
 
-pub below_ne : {x i : ℕ} → x < i → x ≡ i → ⊥
-below_ne h p = omega arith
-
 pub sound_blank : (marks objectors targets : List ℕ) → Handed marks objectors targets → (labels lengths : List ℕ)
     → Blank marks labels lengths → Sound marks objectors targets labels lengths
 sound_blank marks objectors targets reg labels lengths b = record {

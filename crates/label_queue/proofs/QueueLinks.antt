@@ -60,7 +60,3 @@ counted_more marks targets left i x c hi hx hf = record {
 pub target_place : (marks objectors targets : List ℕ) → Handed marks objectors targets → (i x : ℕ) → i < length objectors
     → x ≡ get_or targets i 0 → x < length marks
 target_place marks objectors targets reg i x h p = rw p (reg.order.target i h)
-
-pub objector_place : (marks objectors targets : List ℕ) → Handed marks objectors targets → (i x : ℕ) → i < length objectors
-    → x ≡ get_or objectors i 0 → x < length marks
-objector_place marks objectors targets reg i x h p = rw p (reg.order.objector i h)

@@ -607,17 +607,3 @@ pub moved : {marks objectors targets : List ℕ} {lim s h t y v c c' k : ℕ} {l
 moved {marks} {objectors} {targets} {lim} {s} {h} {t} {y} {v} {c} {c'} {k} {labels} {lengths} {left} {queue} p w =
     subst (λ (n : ℕ). Run marks objectors targets lim s t y n k labels lengths left queue
     × Link marks objectors h t y v n k labels lengths queue) p w
-
--- what the place at h is, under the name that the code has for it
-module _ (marks objectors targets : List ℕ) (h t y : ℕ) (labels lengths left queue : List ℕ)
-    (turn : QueueAt marks objectors targets h t labels lengths left queue) (hh : h < t) (p : y ≡ get_or queue h 0) where
-  pub current_place : y < length marks
-  current_place = rw p (turn.run.places h hh)
-
-  pub current_short : get_or lengths y 0 ≤ h
-  current_short = rw p (turn.run.short h hh)
-
-  -- a place of the queue that does not stand falls
-  pub current_falls : (get_or labels y 0 ≡ 1 → ⊥) → get_or labels (get_or queue h 0) 0 ≡ 2
-  current_falls n =
-      omega (arith, turn.run.sound.small (get_or queue h 0) (turn.run.places h hh), rw p at n, turn.run.marked h hh)

@@ -1,2 +1,3 @@
 pub mod LabelState
 pub mod Queue
+pub mod WorkAt

@@ -1,80 +1,55 @@
-// How the labelling begins: rooms without a label, the objections counted, and what is read and has no objector labelled and
-// queued. The states of the queue that `label_step` and `label_solve` go by, and their laws, are here too; what comes of it is
-// left to them.
+// How the labelling begins: the objections counted, and what is read and has no objector labelled and queued. The states of the
+// queue that `label_step` and `label_solve` go by, and their laws, are here too; what comes of it is left to them.
 #![tactic(auto)]
 
 ghost use Rattle.std.specs.Prelude.{◌≡◌, ◌≤◌, ℕ, ◌<◌, length, get_or};
-ghost use Rattle.lists.specs.Handed.{Handed};
 ghost use Rattle.label_queue.specs.LabelState.{Rooms, Blank};
-ghost use Rattle.label_queue.specs.Queue.{Counted, QueueAt};
+ghost use Rattle.label_queue.specs.Queue.{Counted, Spaces};
+ghost use Rattle.label_queue.specs.WorkAt.{WorkAt, SameRooms};
 
-use pair_chain::place;
+use lists::Pairs;
 
-// Takes every label and length away.
-pub fn blank(marks: &[u8], labels: &mut [u8], lengths: &mut [u16])
-    requires { Rooms marks.now labels.old lengths.old }
-    ensures { Blank marks.now labels.new lengths.new }
+// Counts the objections against each place.
+pub fn count(pairs: &Pairs, left: &mut [u16])
+    requires marks_in_bounds { length pairs.now.marks.now ≤ length left.old }
+    requires none_counted { (x : ℕ) → x < length pairs.now.marks.now → get_or left.old x 0 ≡ 0 }
+    ensures { Counted pairs.now.marks.now pairs.now.targets.now (length pairs.now.targets.now) left.new }
 {
-    let mut i = 0;
-    // The places before i have no label and no length.
-    while i < marks.len() {
-        labels[i] = 0;
-        lengths[i] = 65535;
-        i += 1;
+    // For each place, `left` has how many of the objections passed are against it.
+    for &target in pairs.targets {
+        left[target as usize] += 1;
     }
 }
 
-// Counts the objections against each place.
-pub fn count(marks: &[u8], objectors: &[u32], targets: &[u32], left: &mut [u16])
-    requires handed { Handed marks.now objectors.now targets.now }
-    requires marks_in_bounds { length marks.now ≤ length left.old }
-    requires by_index { (x : ℕ) → x < length marks.now → get_or left.old x 0 ≡ 0 }
-    ensures { Counted marks.now targets.now (length targets.now) left.new }
-{
-    let mut i = 0;
-    // For each place, `left` has how many of the first i objections are against it.
-    while i < targets.len() {
-        let x = place(targets[i]);
-        left[x] += 1;
-        i += 1;
-    }
+// What the labelling writes: for each place how many objections against it are left to look at, its label and its length; and
+// the queue of the places that have a label.
+#[derive(Drop)]
+pub struct Work<'a> {
+    pub left: &'a mut [u16],
+    pub labels: &'a mut [u8],
+    pub lengths: &'a mut [u16],
+    pub queue: &'a mut [u16],
 }
 
 // Labels what is read and has no objector, and queues it.
-pub fn start(
-    marks: &[u8],
-    objectors: &[u32],
-    targets: &[u32],
-    left: &[u16],
-    labels: &mut [u8],
-    lengths: &mut [u16],
-    queue: &mut [u16],
-) -> usize
-    requires handed { Handed marks.now objectors.now targets.now }
-    requires rooms { Rooms marks.now labels.old lengths.old }
-    requires marks_in_bounds { (length marks.now ≤ length left.now) × (length marks.now ≤ length queue.old) }
-    requires counted { Counted marks.now targets.now (length targets.now) left.now }
-    requires blank { Blank marks.now labels.old lengths.old }
-    ensures { QueueAt marks.now objectors.now targets.now 0 result labels.new
-        lengths.new left.now queue.new }
+pub fn start(pairs: &Pairs, work: &mut Work) -> usize
+    requires rooms { Rooms pairs.now.marks.now work.old.labels.now work.old.lengths.now }
+    requires spaces { Spaces pairs.now.marks.now work.old.left.now work.old.queue.now }
+    requires counted { Counted pairs.now.marks.now pairs.now.targets.now (length pairs.now.targets.now) work.old.left.now }
+    requires blank { Blank pairs.now.marks.now work.old.labels.now work.old.lengths.now }
+    ensures queued { WorkAt pairs.now 0 result work.new }
+    ensures same { SameRooms work.old work.new }
+    ensures left { work.new.left.now ≡ work.old.left.now }
 {
     let mut t = 0;
-    let mut i = 0;
-    // The places before i that are read and have no objector stand and are queued before t; no other place has a label.
-    while i < marks.len() {
-        if marks[i] != 0 {
-            i += 1;
-            continue;
+    // The places before x that are read and have no objector stand and are queued before t; no other place has a label.
+    for (x, &mark) in pairs.marks.iter().enumerate() {
+        if mark == 0 && work.left[x] == 0 {
+            work.labels[x] = 1;
+            work.lengths[x] = 0;
+            work.queue[t] = x as u16;
+            t += 1;
         }
-        if left[i] != 0 {
-            i += 1;
-            continue;
-        }
-        labels[i] = 1;
-        lengths[i] = 0;
-        queue[t] = i as u16;
-        t += 1;
-        i += 1;
     }
     t
 }

@@ -1,1 +1,2 @@
+pub mod AreLabelled
 pub mod Labelled

@@ -4,105 +4,79 @@
 // order is left to others.
 #![tactic(auto)]
 
+mod labelled;
+
 ghost use Rattle.std.specs.Prelude.{◌≤◌, length};
-ghost use Rattle.game.specs.Book.{book_of};
 ghost use Rattle.pair_chain.specs.Linked.{Chains};
-ghost use Rattle.lists.specs.Handed.{Handed};
+ghost use Rattle.lists.specs.PairsBook.{pairs_book};
 ghost use Rattle.label_queue.specs.LabelState.{Rooms};
-ghost use Rattle.label_queue.specs.Queue.{Spaces, QueueAt};
+ghost use Rattle.label_queue.specs.WorkAt.{WorkAt, SameRooms};
 ghost use Rattle.label_solve.specs.Labelled.{Labelled, Solved};
 
-use label_queue::{blank, count, start};
+use label_queue::{Work, count, start};
 use label_step::{fell_targets, stand_targets};
-use pair_chain::{chain, wide};
+pub use labelled::LabelledPairs;
+use lists::Pairs;
+use pair_chain::{Links, chain};
 
 // Looks at every place of the queue, which grows meanwhile.
-fn run(
-    marks: &[u8],
-    objectors: &[u32],
-    targets: &[u32],
-    head: &[u16],
-    next: &[u16],
-    left: &mut [u16],
-    labels: &mut [u8],
-    lengths: &mut [u16],
-    queue: &mut [u16],
-    tail: usize,
-)
-    requires handed { Handed marks.now objectors.now targets.now }
-    requires rooms { Rooms marks.now labels.old lengths.old }
-    requires spaces { Spaces marks.now left.old queue.old }
-    requires chains { Chains marks.now objectors.now head.now next.now }
-    requires queue_at { QueueAt marks.now objectors.now targets.now 0 tail labels.old lengths.old left.old queue.old }
-    ensures { Labelled (book_of marks.now objectors.now targets.now) labels.new
-        lengths.new }
+fn run(pairs: &Pairs, links: &Links, work: &mut Work, tail: usize)
+    requires chains { Chains pairs.now.marks.now pairs.now.objectors.now links.now.head.now links.now.next.now }
+    requires queued { WorkAt pairs.now 0 tail work.old }
+    ensures labelled { Labelled (pairs_book pairs.now) work.new.labels.now work.new.lengths.now }
+    ensures same { SameRooms work.old work.new }
 {
     let mut t = tail;
     let mut h = 0;
-    // Each label so far is right and its place in the queue before t; the objections by the places before h are looked at.
+    // Each label so far is right and its place in the queue before t; the objections by the places before h are looked at. The
+    // end moves on meanwhile, so that no `for` fits.
     while h < t {
-        let y = wide(queue[h]);
-        if labels[y] == 1 {
-            t = fell_targets(
-                marks, objectors, targets, head, next, left, labels, lengths, queue, h, t,
-            );
-            h += 1;
-            continue;
-        }
-        t = stand_targets(
-            marks, objectors, targets, head, next, left, labels, lengths, queue, h, t,
-        );
+        let y = usize::from(work.queue[h]);
+        t = if work.labels[y] == 1 {
+            fell_targets(pairs, links, work, h, t)
+        } else {
+            stand_targets(pairs, links, work, h, t)
+        };
         h += 1;
     }
 }
 
-// Labels every place, in rooms that are just as long.
-fn label_all(
-    marks: &[u8],
-    objectors: &[u32],
-    targets: &[u32],
-    labels: &mut [u8],
-    lengths: &mut [u16],
-)
-    requires handed { Handed marks.now objectors.now targets.now }
-    requires rooms { Rooms marks.now labels.old lengths.old }
-    ensures { Labelled (book_of marks.now objectors.now targets.now) labels.new
-        lengths.new }
+// Labels every statement, in rooms that are just as long. Apart from `solve`, since what is written to a part of a room through
+// `Work` is not known to a proof.
+fn label_all(pairs: &Pairs, labels: &mut [u8], lengths: &mut [u16])
+    requires rooms { Rooms pairs.now.marks.now labels.old lengths.old }
+    ensures { Labelled (pairs_book pairs.now) labels.new lengths.new }
 {
     let mut head = [0u16; 1024];
     let mut next = [0u16; 4096];
     let mut left = [0u16; 1024];
     let mut queue = [0u16; 1024];
-    chain(objectors, &mut head, &mut next);
-    count(marks, objectors, targets, &mut left);
-    blank(marks, labels, lengths);
-    let t = start(
-        marks, objectors, targets, &left, labels, lengths, &mut queue,
-    );
-    run(
-        marks, objectors, targets, &head, &next, &mut left, labels, lengths, &mut queue, t,
-    );
+    // No length is 65,535, and no Option: that is the number of the C interface.
+    labels.fill(0);
+    lengths.fill(u16::MAX);
+    chain(pairs.objectors, &mut head, &mut next);
+    count(pairs, &mut left);
+    let links = Links {
+        head: &head,
+        next: &next,
+    };
+    let mut work = Work {
+        left: &mut left,
+        labels,
+        lengths,
+        queue: &mut queue,
+    };
+    let tail = start(pairs, &mut work);
+    run(pairs, &links, &mut work, tail);
 }
 
 // Labels every statement, in time linear in statements and objections. The rooms may be longer than that takes.
-pub fn solve(
-    marks: &[u8],
-    objectors: &[u32],
-    targets: &[u32],
-    labels: &mut [u8],
-    lengths: &mut [u16],
-)
-    requires handed { Handed marks.now objectors.now targets.now }
-    requires marks_in_bounds { (length marks.now ≤ length labels.old) × (length marks.now ≤ length lengths.old) }
-    ensures { Solved marks.now objectors.now targets.now labels.old
-        lengths.old labels.new lengths.new }
+pub fn solve(pairs: &Pairs, labels: &mut [u8], lengths: &mut [u16])
+    requires marks_in_bounds { (length pairs.now.marks.now ≤ length labels.old)
+        × (length pairs.now.marks.now ≤ length lengths.old) }
+    ensures { Solved pairs.now.marks.now pairs.now.objectors.now pairs.now.targets.now
+        labels.old lengths.old labels.new lengths.new }
 {
-    let n = marks.len();
-    label_all(
-        marks,
-        objectors,
-        targets,
-        &mut labels[..n],
-        &mut lengths[..n],
-    );
+    let n = pairs.marks.len();
+    label_all(pairs, &mut labels[..n], &mut lengths[..n]);
 }

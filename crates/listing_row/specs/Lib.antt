@@ -1,2 +1,3 @@
+pub mod RegisterRows
 pub mod RowsAt
 pub mod Said

@@ -5,17 +5,20 @@
 ghost use Rattle.std.specs.Prelude.{◌++◌, ◌≡◌, ◌<◌, ◌≤◌, length, drop};
 ghost use Rattle.game.specs.Account.{kind_account};
 ghost use Rattle.room_write.specs.Writing.{RoomFor, Put};
-ghost use Rattle.listing_row.specs.RowsAt.{Listable, objection_row_at};
+ghost use Rattle.label_solve.specs.AreLabelled.{AreLabelled};
+ghost use Rattle.listing_row.specs.RegisterRows.{entry_row};
 ghost use Rattle.register.specs.Texts.{decimal};
 ghost use Rattle.listing.specs.Rows.{account_fields, statement_row, objection_row, header, numbers_row, refused_row};
 ghost use Rattle.listing_row.specs.Said.{account_said};
 
 use game::Kind;
-use pair_chain::place;
+use label_kind::kind_at;
 use register_number::{number_size, put_number};
+use register_solve::LabelledRegister;
 use room_write::{decimal_size, put_decimal, put_word};
 
 // The size of a label and its length, with the tab between them.
+#[tactic(auto, using(register::proofs::Digits::ten_digits))]
 fn verdict_size(label: u8, turns: u16) -> usize
     ensures { result ≡ length (account_fields (account_said label turns)) }
 {
@@ -27,6 +30,7 @@ fn verdict_size(label: u8, turns: u16) -> usize
 }
 
 // The size of a kind and its length, with the tab between them.
+#[tactic(auto, using(register::proofs::Digits::ten_digits))]
 fn kind_size(kind: Kind) -> usize
     ensures { result ≡ length (account_fields (kind_account kind)) }
 {
@@ -39,18 +43,21 @@ fn kind_size(kind: Kind) -> usize
 }
 
 // The size of a statement's row.
+#[tactic(auto, using(crate::proofs::RowSizes::row_sizes))]
 pub fn statement_size(number: u32, label: u8, turns: u16) -> usize
     ensures { result ≡ length (statement_row number (account_said label turns)) }
 {
     number_size(number) + 1 + verdict_size(label, turns) + 1
 }
 
+#[tactic(auto, using(crate::proofs::RowSizes::row_sizes))]
 pub fn objection_size(objector: u32, target: u32, kind: Kind) -> usize
     ensures { result ≡ length (objection_row objector target (kind_account kind)) }
 {
     number_size(objector) + 1 + number_size(target) + 1 + kind_size(kind) + 1
 }
 
+#[tactic(auto, using(register::proofs::Digits::ten_digits, listing::proofs::Rows::header_length))]
 pub fn header_size(statements: u32, objections: u32) -> usize
     ensures { result ≡ length (header statements objections) }
 {
@@ -93,6 +100,7 @@ fn put_kind(room: &mut [u8], at: usize, kind: Kind) -> usize
 }
 
 // A statement's row.
+#[tactic(auto, using(crate::proofs::RowSizes::row_sizes))]
 pub fn put_statement(room: &mut [u8], at: usize, number: u32, label: u8, turns: u16) -> usize
     requires { RoomFor room.old at (statement_row number (account_said label turns)) }
     ensures { Put room.old at (statement_row number (account_said label turns)) result room.new }
@@ -103,6 +111,7 @@ pub fn put_statement(room: &mut [u8], at: usize, number: u32, label: u8, turns: 
     put_word(room, statement_end, b"\n")
 }
 
+#[tactic(auto, using(crate::proofs::RowSizes::row_sizes))]
 pub fn put_objection(room: &mut [u8], at: usize, objector: u32, target: u32, kind: Kind) -> usize
     requires { RoomFor room.old at (objection_row objector target (kind_account kind)) }
     ensures { Put room.old at (objection_row objector target (kind_account kind)) result room.new }
@@ -116,6 +125,7 @@ pub fn put_objection(room: &mut [u8], at: usize, objector: u32, target: u32, kin
 }
 
 // A word and two numbers.
+#[tactic(auto, using(listing::proofs::Rows::numbers_length))]
 fn put_numbers(room: &mut [u8], at: usize, word: &[u8], first: u32, second: u32) -> usize
     requires { RoomFor room.old at (numbers_row word.now first second) }
     ensures { Put room.old at (numbers_row word.now first second) result room.new }
@@ -136,6 +146,7 @@ pub fn put_header(room: &mut [u8], at: usize, statements: u32, objections: u32) 
 }
 
 // Writes the line of a refusal at the start of a room, and answers how many bytes it has.
+#[tactic(auto, using(listing::proofs::Rows::refused_small))]
 pub fn write_refusal(number: u32, place: u32, room: &mut [u8]) -> usize
     requires { 64 ≤ length room.old }
     ensures { (result ≡ length (refused_row number place)) ×
@@ -145,47 +156,24 @@ pub fn write_refusal(number: u32, place: u32, room: &mut [u8]) -> usize
 }
 
 // The size of the row of the objection k.
-pub fn entry_size(
-    numbers: &[u32],
-    marks: &[u8],
-    objectors: &[u32],
-    targets: &[u32],
-    labels: &[u8],
-    lengths: &[u16],
-    k: usize,
-) -> usize
-    requires { Listable numbers.now marks.now objectors.now targets.now labels.now lengths.now
-        × (k < length objectors.now) }
-    ensures { result ≡ length (objection_row_at numbers.now objectors.now targets.now
-        labels.now lengths.now k) }
+pub fn entry_size(register: &LabelledRegister, k: usize) -> usize
+    requires { AreLabelled register.now.labelled × (k < length register.now.labelled.pairs.objectors.now) }
+    ensures { result ≡ length (entry_row register.now k) }
 {
-    let y = place(objectors[k]);
-    let x = place(targets[k]);
-    let kind = label_kind::kind_at(marks, objectors, targets, labels, lengths, k);
-    objection_size(numbers[y], numbers[x], kind)
+    let y = register.labelled.pairs.objectors[k] as usize;
+    let x = register.labelled.pairs.targets[k] as usize;
+    let kind = kind_at(&register.labelled, k);
+    objection_size(register.numbers[y], register.numbers[x], kind)
 }
 
 // The row of the objection k.
-pub fn put_entry(
-    room: &mut [u8],
-    at: usize,
-    numbers: &[u32],
-    marks: &[u8],
-    objectors: &[u32],
-    targets: &[u32],
-    labels: &[u8],
-    lengths: &[u16],
-    k: usize,
-) -> usize
-    requires listable { Listable numbers.now marks.now objectors.now targets.now labels.now lengths.now
-        × (k < length objectors.now) }
-    requires room_for { RoomFor room.old at (objection_row_at numbers.now objectors.now targets.now labels.now
-        lengths.now k) }
-    ensures { Put room.old at (objection_row_at numbers.now objectors.now
-        targets.now labels.now lengths.now k) result room.new }
+pub fn put_entry(room: &mut [u8], at: usize, register: &LabelledRegister, k: usize) -> usize
+    requires are_labelled { AreLabelled register.now.labelled × (k < length register.now.labelled.pairs.objectors.now) }
+    requires room_for { RoomFor room.old at (entry_row register.now k) }
+    ensures { Put room.old at (entry_row register.now k) result room.new }
 {
-    let y = place(objectors[k]);
-    let x = place(targets[k]);
-    let kind = label_kind::kind_at(marks, objectors, targets, labels, lengths, k);
-    put_objection(room, at, numbers[y], numbers[x], kind)
+    let y = register.labelled.pairs.objectors[k] as usize;
+    let x = register.labelled.pairs.targets[k] as usize;
+    let kind = kind_at(&register.labelled, k);
+    put_objection(room, at, register.numbers[y], register.numbers[x], kind)
 }

@@ -1,15 +1,26 @@
 -- The parts of a listing that the code counts: how long they are, and all of them.
-use mathlib.Core.List.{List, ◌++◌}
-use mathlib.Core.Path.{ap, ◌≡◌}
-use Prim.Native.Nat.{ℕ, ◌+◌, ◌*◌, ◌≤◌}
+use mathlib.Core.List.{List, map, ◌++◌}
+use mathlib.Core.Path.{ap, sym, subst, ◌≡◌, ◌∙◌}
+use Prim.Native.Nat.{ℕ, zero, suc, ◌+◌, ◌*◌, ◌≤◌}
+use native.Mathlib.Numerals.{add-one}
 use native.Mathlib.Omega.{arith}
 use lib.ListN.{length, get_or, length-append}
+use Rattle.std.specs.List.{sum, range_with_len}
+use Rattle.std.proofs.lemmas.List.FromFn.{sum_by-map-range_with_len_more}
 use Rattle.register.specs.Texts.{rows_to}
 use Rattle.listing.specs.Rows.{header}
 use Rattle.listing_row.specs.RowsAt.{statement_row_at, verdict_at, objection_row_at, kind_at}
 use Rattle.listing_write.specs.ListingParts.{statement_part, objection_part, whole}
-use Rattle.register.proofs.TextRows.{rows_small}
-use Rattle.listing.proofs.Rows.{statement_small, objection_small}
+use Rattle.register.proofs.TextRows.{no_rows, rows_longer, rows_small}
+use Rattle.listing.proofs.Rows.{header_small, statement_small, objection_small}
+
+-- the sizes of rows, added up
+pub sizes_summed : (row : ℕ → List ℕ) (n : ℕ) → sum (map (λ k. length (row k)) (range_with_len 0 n)) ≡ length (rows_to n row)
+sizes_summed row zero = sym (ap length (no_rows row))
+sizes_summed row (suc n) =
+    subst (λ m. sum (map (λ k. length (row k)) (range_with_len 0 m)) ≡ length (rows_to m row)) (add-one n)
+    (sum_by-map-range_with_len_more (λ x. x) (λ k. length (row k)) 0 n n (omega arith)
+    ∙ omega (arith, rows_longer row n, sizes_summed row n))
 
 -- The parts of the listing that the program counts are not long.
 module _ (nums labels lengths : List ℕ) where
@@ -23,17 +34,6 @@ module _ (nums labels lengths : List ℕ) where
       rows_small (objection_row_at nums objectors targets labels lengths) 64
       (λ k. objection_small (get_or nums (get_or objectors k 0) 0) (get_or nums (get_or targets k 0) 0)
       (kind_at objectors targets labels lengths k))
-
-  -- all rows, once the last was passed
-  pub statements_all : (n : ℕ) → n ≡ length nums → rows_to n
-      (statement_row_at nums labels lengths) ≡ statement_part nums labels lengths
-  unfolding statement_part
-  statements_all n e = ap (λ k. rows_to k (statement_row_at nums labels lengths)) e
-
-  pub objections_all : (objectors targets : List ℕ) (m : ℕ) → m ≡ length objectors
-      → rows_to m (objection_row_at nums objectors targets labels lengths) ≡ objection_part nums objectors targets labels lengths
-  unfolding objection_part
-  objections_all objectors targets m e = ap (λ k. rows_to k (objection_row_at nums objectors targets labels lengths)) e
 
   pub statement_part_small : length (statement_part nums labels lengths) ≤ 64 * length nums
   unfolding statement_part
@@ -55,3 +55,6 @@ module _ (nums labels lengths : List ℕ) where
             (statement_part nums labels lengths ++ objection_part nums objectors targets labels lengths),
         length-append (statement_part nums labels lengths) (objection_part nums objectors targets labels lengths),
       )
+
+-- how long the parts are, and all of them, as one set
+pub ruleset part_sizes = (header_small, statement_part_small, objection_part_small, whole_length)

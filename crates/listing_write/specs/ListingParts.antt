@@ -2,6 +2,7 @@
 use Rattle.std.specs.Prelude.{List, ◌++◌, ℕ, length}
 use Rattle.register.specs.Texts.{rows_to}
 use Rattle.listing.specs.Rows.{header}
+use Rattle.register_solve.specs.declared.labelled_register.LabelledRegister.{LabelledRegister}
 use Rattle.listing_row.specs.RowsAt.{statement_row_at, objection_row_at}
 
 -- all rows of the statements; of the objections; the listing
@@ -16,3 +17,15 @@ unfoldable pub whole : (nums objectors targets labels lengths : List ℕ) → Li
 whole nums objectors targets labels lengths =
     header (length nums) (length objectors) ++
     (statement_part nums labels lengths ++ objection_part nums objectors targets labels lengths)
+
+-- the same of a register that is lent as one value
+abbrev pub statements_of : LabelledRegister → List ℕ
+statements_of r = statement_part r.numbers.now r.labelled.labels.now r.labelled.lengths.now
+
+abbrev pub objections_of : LabelledRegister → List ℕ
+objections_of r = objection_part r.numbers.now r.labelled.pairs.objectors.now r.labelled.pairs.targets.now r.labelled.labels.now
+    r.labelled.lengths.now
+
+abbrev pub listing_of : LabelledRegister → List ℕ
+listing_of r = whole r.numbers.now r.labelled.pairs.objectors.now r.labelled.pairs.targets.now r.labelled.labels.now
+    r.labelled.lengths.now

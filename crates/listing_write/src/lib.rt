@@ -7,142 +7,100 @@
 
 ghost use Rattle.std.specs.Prelude.{List, ◌++◌, ◌≡◌, ◌≤◌, ℕ, length, drop};
 ghost use Rattle.register.specs.Register.{Register};
-ghost use Rattle.register_solve.specs.SolvedText.{Ready};
 ghost use Rattle.room_write.specs.Writing.{RoomFor, Put};
 ghost use Rattle.listing.specs.Listing.{IsListing};
-ghost use Rattle.listing_row.specs.RowsAt.{Listable};
-ghost use Rattle.listing_write.specs.ListingParts.{statement_part, objection_part};
+ghost use Rattle.label_solve.specs.AreLabelled.{AreLabelled};
+ghost use Rattle.register_solve.specs.SolvedAs.{ReadyAs};
+ghost use Rattle.listing_write.specs.ListingParts.{statements_of, objections_of};
 
-use listing_row::{entry_size, put_entry};
+use listing_row::{entry_size, header_size, put_entry, put_header, put_statement, statement_size};
+use register_solve::LabelledRegister;
 
 // The size of the rows of all statements.
-fn statements_size(numbers: &[u32], labels: &[u8], lengths: &[u16]) -> usize
-    requires { (length numbers.now ≤ length labels.now) × (length numbers.now ≤ length lengths.now)
-        × (length numbers.now ≤ 1024) }
-    ensures { result ≡ length (statement_part numbers.now labels.now lengths.now) }
+fn statements_size(register: &LabelledRegister) -> usize
+    ensures { result ≡ length (statements_of register.now) }
 {
-    let mut total: usize = 0;
-    let mut x = 0;
-    // The total is the size of the rows of the first x statements.
-    while x < numbers.len() {
-        total += listing_row::statement_size(numbers[x], labels[x], lengths[x]);
-        x += 1;
-    }
-    total
+    (0..register.numbers.len())
+        .map(|x| {
+            statement_size(
+                register.numbers[x],
+                register.labelled.labels[x],
+                register.labelled.lengths[x],
+            )
+        })
+        .sum()
 }
 
 // The size of the rows of all objections.
-fn objections_size(
-    numbers: &[u32],
-    marks: &[u8],
-    objectors: &[u32],
-    targets: &[u32],
-    labels: &[u8],
-    lengths: &[u16],
-) -> usize
-    requires { Listable numbers.now marks.now objectors.now targets.now labels.now lengths.now }
-    ensures { result ≡ length (objection_part numbers.now objectors.now targets.now
-        labels.now lengths.now) }
+fn objections_size(register: &LabelledRegister) -> usize
+    requires { AreLabelled register.now.labelled }
+    ensures { result ≡ length (objections_of register.now) }
 {
-    let mut total: usize = 0;
-    let mut k = 0;
-    // The total is the size of the rows of the first k objections.
-    while k < objectors.len() {
-        total += entry_size(numbers, marks, objectors, targets, labels, lengths, k);
-        k += 1;
-    }
-    total
+    (0..register.labelled.pairs.objectors.len())
+        .map(|k| entry_size(register, k))
+        .sum()
 }
 
 // The rows of all statements.
-fn put_statements(
-    room: &mut [u8],
-    at: usize,
-    numbers: &[u32],
-    labels: &[u8],
-    lengths: &[u16],
-) -> usize
-    requires numbers_in_bounds { (length numbers.now ≤ length labels.now) × (length numbers.now ≤ length lengths.now) }
-    requires room_for { RoomFor room.old at (statement_part numbers.now labels.now lengths.now) }
-    ensures { Put room.old at (statement_part numbers.now labels.now
-        lengths.now) result room.new }
+fn put_statements(room: &mut [u8], at: usize, register: &LabelledRegister) -> usize
+    requires { RoomFor room.old at (statements_of register.now) }
+    ensures { Put room.old at (statements_of register.now) result room.new }
 {
     let mut end = at;
-    let mut x = 0;
     // From `at` to `end` the room holds the rows of the first x statements, and elsewhere it is as it was.
-    while x < numbers.len() {
-        end = listing_row::put_statement(room, end, numbers[x], labels[x], lengths[x]);
-        x += 1;
+    for (x, &number) in register.numbers.iter().enumerate() {
+        end = put_statement(
+            room,
+            end,
+            number,
+            register.labelled.labels[x],
+            register.labelled.lengths[x],
+        );
     }
     end
 }
 
 // The rows of all objections.
-fn put_objections(
-    room: &mut [u8],
-    at: usize,
-    numbers: &[u32],
-    marks: &[u8],
-    objectors: &[u32],
-    targets: &[u32],
-    labels: &[u8],
-    lengths: &[u16],
-) -> usize
-    requires listable { Listable numbers.now marks.now objectors.now targets.now labels.now lengths.now }
-    requires room_for { RoomFor room.old at (objection_part numbers.now objectors.now targets.now labels.now lengths.now) }
-    ensures { Put room.old at (objection_part numbers.now objectors.now
-        targets.now labels.now lengths.now) result room.new }
+fn put_objections(room: &mut [u8], at: usize, register: &LabelledRegister) -> usize
+    requires are_labelled { AreLabelled register.now.labelled }
+    requires room_for { RoomFor room.old at (objections_of register.now) }
+    ensures { Put room.old at (objections_of register.now) result room.new }
 {
     let mut end = at;
-    let mut k = 0;
     // From `at` to `end` the room holds the rows of the first k objections, and elsewhere it is as it was.
-    while k < objectors.len() {
-        end = put_entry(
-            room, end, numbers, marks, objectors, targets, labels, lengths, k,
-        );
-        k += 1;
+    for k in 0..register.labelled.pairs.objectors.len() {
+        end = put_entry(room, end, register, k);
     }
     end
 }
 
 // How many bytes the listing has.
-pub fn size(
-    numbers: &[u32],
-    marks: &[u8],
-    objectors: &[u32],
-    targets: &[u32],
-    labels: &[u8],
-    lengths: &[u16],
-) -> usize
-    requires { (R : Register) × Ready R numbers.now marks.now objectors.now targets.now labels.now lengths.now }
-    ensures { (R : Register) → Ready R numbers.now marks.now objectors.now
-        targets.now labels.now lengths.now → (l : List ℕ) × IsListing R l × (result ≡ length l) }
+#[tactic(auto, using(crate::proofs::ListingParts::part_sizes))]
+pub fn size(register: &LabelledRegister) -> usize
+    requires { (R : Register) × ReadyAs R register.now }
+    ensures { (R : Register) → ReadyAs R register.now → (l : List ℕ) × IsListing R l × (result ≡ length l) }
 {
-    let head = listing_row::header_size(numbers.len() as u32, objectors.len() as u32);
-    let statements = statements_size(numbers, labels, lengths);
-    let objections = objections_size(numbers, marks, objectors, targets, labels, lengths);
+    let head = header_size(
+        register.numbers.len() as u32,
+        register.labelled.pairs.objectors.len() as u32,
+    );
+    let statements = statements_size(register);
+    let objections = objections_size(register);
     head + statements + objections
 }
 
 // Writes the listing at the start of a room that is long enough, and answers how many bytes it has.
-pub fn write(
-    numbers: &[u32],
-    marks: &[u8],
-    objectors: &[u32],
-    targets: &[u32],
-    labels: &[u8],
-    lengths: &[u16],
-    room: &mut [u8],
-) -> usize
-    requires { (R : Register) × Ready R numbers.now marks.now objectors.now targets.now labels.now lengths.now
-        × ((l : List ℕ) → IsListing R l → length l ≤ length room.old) }
-    ensures { (R : Register) → Ready R numbers.now marks.now objectors.now
-        targets.now labels.now lengths.now → (l : List ℕ) × IsListing R l × (result ≡ length l)
+pub fn write(register: &LabelledRegister, room: &mut [u8]) -> usize
+    requires { (R : Register) × ReadyAs R register.now × ((l : List ℕ) → IsListing R l → length l ≤ length room.old) }
+    ensures { (R : Register) → ReadyAs R register.now → (l : List ℕ) × IsListing R l × (result ≡ length l)
         × (room.new ≡ l ++ drop (length l) room.old) }
 {
-    let head = listing_row::put_header(room, 0, numbers.len() as u32, objectors.len() as u32);
-    let statements = put_statements(room, head, numbers, labels, lengths);
-    put_objections(
-        room, statements, numbers, marks, objectors, targets, labels, lengths,
-    )
+    let head = put_header(
+        room,
+        0,
+        register.numbers.len() as u32,
+        register.labelled.pairs.objectors.len() as u32,
+    );
+    let statements = put_statements(room, head, register);
+    put_objections(room, statements, register)
 }

@@ -1,3 +1,4 @@
 pub mod Handed
 pub mod ListsFaults
+pub mod PairsBook
 pub mod Refuses

@@ -11,20 +11,14 @@ use lib.ListN.{length, get_or, length-append, length-map, get_or-map}
 use borrow.Author.Tests.{eq-eqb, ne_eqb}
 use Rattle.register.specs.Texts.{rows_to, decimal}
 use Rattle.register.proofs.Digits.{ten_digits}
-use Rattle.register.proofs.TextRows.{rows_small, rows_same}
+use Rattle.register.proofs.TextRows.{no_rows, rows_longer, rows_small, rows_same}
 use Rattle.mend.specs.Fate.{Fate, kept, moved, dropped, unended_line, spoiled_line, second_statement, statement_limit}
 use Rattle.mend.specs.Fate.{unknown_number, repeat, objection_limit, fate_number}
 use Rattle.mend.specs.Report.{moved_word, dropped_word, row_of, report_of}
 use Rattle.mend.proofs.ReportRow.{row_length}
 use Rattle.mend_report.specs.NumberedReport.{word_of, fate_field, numbered_row, numbered_row_of, numbered_report}
 
--- the word of a fate, with its tabs
-pub moved_field : (fate : ℕ) → fate ≡ 4 → 9 ∷ (moved_word ++ (9 ∷ [])) ≡ fate_field fate
-moved_field fate e = rw (eq-eqb fate 4 e) refl
-
-pub dropped_field : (fate : ℕ) → (fate ≡ 4 → ⊥) → 9 ∷ (dropped_word ++ (9 ∷ [])) ≡ fate_field fate
-dropped_field fate n = rw (ne_eqb fate 4 n) refl
-
+-- whatever the fate is
 pub field_small : (fate : ℕ) → length (fate_field fate) ≤ 9
 field_small fate = go (eqb fate 4)
   where
@@ -83,3 +77,16 @@ report_is other fates =
     ∙ rows_same (length fates) (row_at (map (fate_number other) fates)) (λ k. row_of (suc k) (get_or fates k kept))
     (λ k h. ap (numbered_row_of (suc k)) (get_or-map (fate_number other) fates k kept) ∙ row_is (suc k) other
     (get_or fates k kept))
+
+-- what the sizes are added up by
+pub ruleset sizes = (
+  ten_digits,
+  field_small,
+  pieces_length,
+  no_rows,
+  rows_longer,
+  told_row,
+  kept_row,
+  rows_bounded,
+  report_all,
+)

@@ -1,5 +1,7 @@
 // The report of a mending, written into a lent room: a row for each line of a text that was dropped or moved. The fates of the
 // lines, by their numbers, are found by others, and words and numbers put by `room_write`.
+//
+// A fate stays the number that its row ends with, one byte: up to 65,535 stand in fixed memory, with no heap.
 #![tactic(auto)]
 
 ghost use Rattle.std.specs.Prelude.{◌++◌, ◌≡◌, ◌≤◌, length, drop};
@@ -16,25 +18,24 @@ fn fate_size(fate: u8) -> usize
 }
 
 // The size of the row of a line that was dropped or moved.
+#[tactic(auto, using(crate::proofs::NumberedReport::sizes))]
 fn row_size(line: u32, fate: u8) -> usize
     ensures { result ≡ length (numbered_row line fate) }
 {
-    decimal_size(line) + fate_size(fate) + decimal_size(fate as u32) + 1
+    decimal_size(line) + fate_size(fate) + decimal_size(u32::from(fate)) + 1
 }
 
-// How many bytes the report has. Lines are counted from 1, so the line at the place k is the one of the number `next`.
+// How many bytes the report has. Lines are counted from 1, so the line at the place k has the number k + 1.
+#[tactic(auto, using(crate::proofs::NumberedReport::sizes))]
 pub fn report_size(fates: &[u8]) -> usize
     requires { length fates.now ≤ 65535 }
     ensures { result ≡ length (numbered_report fates.now) }
 {
-    let mut total: usize = 0;
-    let mut next = 0;
-    // The total is the size of the rows of those of the first `next` lines that were dropped or moved.
-    while next < fates.len() {
-        let k = next;
-        next += 1;
-        if fates[k] != 0 {
-            total += row_size(next as u32, fates[k]);
+    let mut total = 0;
+    // The total is the size of the rows of those of the first k lines that were dropped or moved.
+    for (k, &fate) in fates.iter().enumerate() {
+        if fate != 0 {
+            total += row_size((k + 1) as u32, fate);
         }
     }
     total
@@ -52,13 +53,14 @@ fn put_fate(room: &mut [u8], at: usize, fate: u8) -> usize
 }
 
 // Puts the row of a line that was dropped or moved, and answers the place behind it.
+#[tactic(auto, using(crate::proofs::NumberedReport::sizes))]
 fn put_row(room: &mut [u8], at: usize, line: u32, fate: u8) -> usize
     requires { RoomFor room.old at (numbered_row line fate) }
     ensures { Put room.old at (numbered_row line fate) result room.new }
 {
     let word = put_decimal(room, at, line);
     let cause = put_fate(room, word, fate);
-    let row_end = put_decimal(room, cause, fate as u32);
+    let row_end = put_decimal(room, cause, u32::from(fate));
     put_word(room, row_end, b"\n")
 }
 
@@ -69,13 +71,10 @@ pub fn put_report(room: &mut [u8], fates: &[u8])
         ++ drop (length (numbered_report fates.now)) room.old }
 {
     let mut end = 0;
-    let mut next = 0;
-    // Up to `end` the room holds the rows of those of the first `next` lines that were dropped or moved.
-    while next < fates.len() {
-        let k = next;
-        next += 1;
-        if fates[k] != 0 {
-            end = put_row(room, end, next as u32, fates[k]);
+    // Up to `end` the room holds the rows of those of the first k lines that were dropped or moved.
+    for (k, &fate) in fates.iter().enumerate() {
+        if fate != 0 {
+            end = put_row(room, end, (k + 1) as u32, fate);
         }
     }
 }

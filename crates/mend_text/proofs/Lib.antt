@@ -1,3 +1,4 @@
 pub mod LineAt
 pub mod Loops
 pub mod Passing
+pub mod Settled

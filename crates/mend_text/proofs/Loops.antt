@@ -14,7 +14,7 @@ use Rattle.register_read.specs.ReadState.{Holds}
 use Rattle.register.proofs.OneMore.{empty_valid}
 use Rattle.register_read.proofs.Held.{take_more, holds_back}
 use Rattle.mend.specs.TextLines.{TextLine, LinesOf, good, spoiled, unended}
-use Rattle.mend.specs.Mended.{fates, with_statements, with_statement, late_after, mended, with_objections, fates_from, listed}
+use Rattle.mend.specs.Mended.{fates, with_statements, with_statement, late_after, mended, with_objections, fates_from}
 use Rattle.mend.specs.Mended.{fate_of}
 use Rattle.mend.specs.Mended.{with_objection}
 use Rattle.mend.proofs.TextLines.{none_first, few_lines}
@@ -96,10 +96,10 @@ stating_first s ls nums marks links fates p i = record {
 
 pub stating_next : (s : List ℕ) (ls : List TextLine) (at n k : ℕ) (late : Bool) (nums marks links fates : List ℕ)
     → (v : Stating s ls at n k late nums marks links fates) → k < length fates → (r : StatementPass)
-    (nums' marks' links' : List ℕ) → StatementPassed s at v.rest v.S late r nums' marks' links'
-    → Stating s ls r.next r.statements (k + 1) r.late nums' marks' links' (set fates k r.fate)
+    (n' : ℕ) (nums' marks' links' : List ℕ) → StatementPassed s at v.rest v.S late r n' nums' marks' links'
+    → Stating s ls r.next n' (k + 1) r.late nums' marks' links' (set fates k r.fate)
 unfolding with_statements first_fates
-stating_next s ls at n k late nums marks links fates v h r nums' marks' links' q = record {
+stating_next s ls at n k late nums marks links fates v h r n' nums' marks' links' q = record {
   lines_of = v.lines_of;
   rest = q.passed.more;
   place = place_next s ls at k v.rest r.next q.line v.place q.passed;
@@ -146,29 +146,6 @@ pub record Objecting (s : List ℕ) (ls : List TextLine) (at n m k : ℕ) (nums 
     pub kept : mended ls ≡ with_objections R rest
     pub fates_are : map told (fates ls) ≡ take k fates-room ++ map told (fates_from S late R rest)
     pub ahead : take (length ls) fates-room ≡ take k fates-room ++ first_fates S late rest
-
-pub objecting_first : (s : List ℕ) (ls : List TextLine) (n : ℕ) (nums marks links objectors targets fates-room : List ℕ)
-    → StatementsSettled s ls n nums marks links fates-room → Objecting s ls 0 n 0 0 nums marks objectors targets fates-room
-objecting_first s ls n nums marks links objectors targets fates-room q = record {
-  lines_of = q.lines_of;
-  rest = ls;
-  place = place_first s ls q.lines_of;
-  S = [];
-  late = false;
-  R = listed ls;
-  valid = q.stated.valid;
-  holds = record {
-    statements = q.stated.holds.statements;
-    objections = refl;
-    numbers_are = q.stated.holds.numbers_are;
-    marks_are = q.stated.holds.marks_are;
-    objectors_are = refl;
-    targets_are = refl;
-  };
-  kept = refl;
-  fates_are = refl;
-  ahead = q.fates_are;
-}
 
 both_fates : (S : List StatementLine) (late : Bool) (R : Register) (l : TextLine)
     → later_fate R l (first_fate S late l) ≡ told (fate_of S late R l)

@@ -6,7 +6,6 @@ use Prim.Native.Nat.{ℕ, ◌+◌, ◌≤◌, ◌<◌}
 use lib.Dec.{eqb}
 use lib.ListN.{drop, length, set, get_or}
 use lib.Seq.{set-get_or}
-use borrow.Author.Tests.{ne_eqb}
 use Rattle.register.specs.declared.StatementLine.{StatementLine}
 use Rattle.register.specs.declared.ObjectionLine.{ObjectionLine}
 use Rattle.register.specs.declared.Line.TheVariants.{Objection, Statement}
@@ -37,25 +36,21 @@ told_late false kept = refl
 told_late false moved = refl
 told_late false (dropped cause) = refl
 
-pub told_anyway : (late : Bool) (fate : ℕ) → (fate ≡ 0 → ⊥) → told_if late fate ≡ fate
-told_anyway true fate n = rw (ne_eqb fate 0 n) refl
-told_anyway false fate n = refl
-
 -- While statements are settled.
 module _ (s : List ℕ) (at : ℕ) (ls : List TextLine) (lines : LinesOf (drop at s) ls) (S : List StatementLine) (n : ℕ)
     (nums marks links : List ℕ) (stated : Stated S n nums marks links) (late : Bool) where
   pub past_unended : at < length s → AnyLineAt s at Unended
-      → StatementPassed s at ls S late (record { fate = 2; next = length s; statements = n; late = late }) nums marks links
+      → StatementPassed s at ls S late (record { fate = 2; next = length s; late = late }) n nums marks links
   past_unended h u =
       record { line = unended; passed = pass_unended s at ls lines h u; stated = stated; late_is = refl; fate_is = refl }
 
   pub past_spoiled : (next : ℕ) → AnyLineAt s at (Spoiled next)
-      → StatementPassed s at ls S late (record { fate = 3; next = next; statements = n; late = late }) nums marks links
+      → StatementPassed s at ls S late (record { fate = 3; next = next; late = late }) n nums marks links
   past_spoiled next u =
       record { line = spoiled; passed = pass_spoiled s at ls lines next u; stated = stated; late_is = refl; fate_is = refl }
 
   pub past_objection : (o : ObjectionLine) (next : ℕ) → AnyLineAt s at (Good (Objection o) next)
-      → StatementPassed s at ls S late (record { fate = 0; next = next; statements = n; late = true }) nums marks links
+      → StatementPassed s at ls S late (record { fate = 0; next = next; late = true }) n nums marks links
   past_objection o next g = record {
     line = good (Objection o);
     passed = pass_good s at ls lines (Objection o) next g;
@@ -67,7 +62,7 @@ module _ (s : List ℕ) (at : ℕ) (ls : List TextLine) (lines : LinesOf (drop a
   pub past_statement : (st : StatementLine) (next : ℕ) → AnyLineAt s at (Good (Statement st) next) → 1024 ≤ length nums
       → 1024 ≤ length marks → (f : ℕ) (nums' marks' links' : List ℕ) → StatementSettled nums marks n st f nums' marks' links'
       → (n' fate : ℕ) → n' ≡ cond (eqb f 0) (n + 1) n → fate ≡ told_if late f
-      → StatementPassed s at ls S late (record { fate = fate; next = next; statements = n'; late = late }) nums' marks' links'
+      → StatementPassed s at ls S late (record { fate = fate; next = next; late = late }) n' nums' marks' links'
   past_statement st next g a b f nums' marks' links' settled n' fate counted is =
       let (e, now-stated) = statement_stated S n nums marks links stated st g.0 a b f nums' marks' links' settled in
       record {

@@ -1,1 +1,2 @@
+pub mod MendedAs
 pub mod Passes

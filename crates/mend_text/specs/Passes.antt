@@ -1,13 +1,12 @@
 -- What reading any text line by line leaves in the lent rooms, not for callers of the product: first statements are settled, then
 -- objections, and each line has the number of its fate in a room of its own.
 use Rattle.std.specs.Prelude.{Bool, cond, false, ◌&&◌, List, map, [], ◌∷◌, ◌++◌, ◌≡◌, ℕ, ◌≤◌, ◌<◌, eqb, length, get_or, drop, set}
-use Rattle.std.specs.Prelude.{take}
+use Rattle.std.specs.Prelude.{Some, take}
 use Rattle.register.specs.Lines.{BeginsWith}
 use Rattle.register_line.specs.LineReading.{GotAt}
 use Rattle.register.specs.declared.StatementLine.{StatementLine}
 use Rattle.register.specs.declared.Line.{Line}
 use Rattle.register.specs.declared.Line.TheVariants.{Statement, Objection}
-use Rattle.register_line.specs.declared.Got.TheVariants.{Good as GoodLine}
 use Rattle.register.specs.Register.{Register, Valid}
 use Rattle.register_read.specs.ReadState.{Holds}
 use Rattle.mend.specs.TextLines.{Unbroken, TextLine, good, spoiled, unended, LinesOf}
@@ -21,16 +20,9 @@ use Rattle.mend_text.specs.declared.StatementPass.{StatementPass}
 use Rattle.mend_text.specs.declared.ObjectionPass.{ObjectionPass}
 use Rattle.mend_text.specs.declared.KeptCounts.{KeptCounts}
 
--- the next byte 10 from a place on, or the end
-pub record NextEnd (s : List ℕ) (at r : ℕ) : Type 0 where
-  pub from : at ≤ r
-  pub within : r ≤ length s
-  pub none : (i : ℕ) → at ≤ i → i < r → get_or s i 0 ≡ 10 → ⊥
-  pub ends : r < length s → get_or s r 0 ≡ 10
-
 -- the line at a place of any text, and where the next one starts
 abbrev pub AnyLineAt : List ℕ → ℕ → AnyLine → Type 0
-AnyLineAt s at (Good l next) = GotAt s at (GoodLine l next)
+AnyLineAt s at (Good l next) = GotAt s at (Some (l, next))
 AnyLineAt s at (Spoiled next) =
     ((l : Line) → ¬ BeginsWith l (drop at s)) × (at < next) × (next ≤ length s)
     × ((w : List ℕ) × Unbroken w × (drop at s ≡ w ++ (10 ∷ drop next s)))
@@ -68,10 +60,10 @@ pub record Passed (s : List ℕ) (at : ℕ) (ls : List TextLine) (next : ℕ) (l
 
 -- One line passed while statements are settled, and while objections are.
 pub record StatementPassed (s : List ℕ) (at : ℕ) (ls : List TextLine) (S : List StatementLine) (late : Bool) (r : StatementPass)
-    (nums' marks' links' : List ℕ) : Type 0 where
+    (n' : ℕ) (nums' marks' links' : List ℕ) : Type 0 where
   pub line : TextLine
   pub passed : Passed s at ls r.next line
-  pub stated : Stated (with_statement S line) r.statements nums' marks' links'
+  pub stated : Stated (with_statement S line) n' nums' marks' links'
   pub late_is : r.late ≡ late_after late line
   pub fate_is : r.fate ≡ first_fate S late line
 

@@ -1,9 +1,16 @@
 // Any text, read line by line and settled in lent rooms: first its statements, then its objections, as a line's fate depends on
 // what is kept before it. What becomes of one line is left to `mend_line`, and writing the mended text to others.
+//
+// The fate of a line stays a number of one byte, not an enum: the fates of up to 65,535 lines stand in fixed memory, with no
+// heap, and the number is the one that the report writes. Below `settle_text` numbers and their links are one value, the index;
+// the other rooms are parameters of their own: some are written while others are read.
 #![tactic(auto)]
 
-ghost use Rattle.std.specs.Prelude.{cond, List, ◌≡◌, ◌≤◌, ◌<◌, ◌+◌, eqb, length, drop};
-ghost use Rattle.register_index.specs.Indexed.{Indexed};
+mod mended_text;
+
+ghost use Rattle.std.specs.Prelude.{cond, List, ◌≡◌, ◌≤◌, ◌<◌, ◌+◌, eqb, length, get_or, drop};
+ghost use Rattle.game.specs.Questions.{FirstBelow};
+ghost use Rattle.register_index.specs.IndexAt.{IsIndexed, SameParts};
 ghost use Rattle.register.specs.declared.StatementLine.{StatementLine};
 ghost use Rattle.register.specs.Register.{Register, Valid};
 ghost use Rattle.register_read.specs.ReadState.{Holds};
@@ -11,13 +18,17 @@ ghost use Rattle.mend.specs.TextLines.{TextLine, LinesOf};
 ghost use Rattle.mend_line.specs.SettledRooms.{Stated};
 ghost use Rattle.pair_words.specs.Words.{objectors_in, targets_in};
 ghost use Rattle.pair_repeat.specs.Entered.{Entered};
-ghost use Rattle.mend_text.specs.Passes.{NextEnd, AnyLineAt, told_if, StatementPassed, StatementRooms, StatementsSettled};
+ghost use Rattle.mend_text.specs.MendedAs.{MendedAs};
+ghost use Rattle.mend_text.specs.Passes.{AnyLineAt, told_if, StatementPassed, StatementRooms, StatementsSettled};
 ghost use Rattle.mend_text.specs.Passes.{ObjectionRooms, ObjectionPassed, TextSettled};
 
+use lists::{NumberedPairs, Pairs};
+pub use mended_text::MendedText;
 use register::Line;
-use register_line::Got;
+use register_index::NumberIndex;
+use register_read::RegisterRooms;
 
-// A line of any text, and where the next one starts. An unended line is the last.
+// A line of any text, and where the next one starts. An unended line is the last. These are three cases, and no Option or Result.
 #[derive(Drop)]
 pub enum AnyLine {
     Good(Line, usize),
@@ -25,12 +36,11 @@ pub enum AnyLine {
     Unended,
 }
 
-// The fate of a line, and behind it the place, how many statements are kept, and whether a statement is late there.
+// The fate of a line, and behind it the place, and whether a statement is late there.
 #[derive(Drop)]
 pub struct StatementPass {
     pub fate: u8,
     pub next: usize,
-    pub statements: usize,
     pub late: bool,
 }
 
@@ -48,20 +58,11 @@ pub struct KeptCounts {
     pub lines: usize,
 }
 
-// The place of the next byte 10, or the end of the text.
-fn line_end(text: &[u8], at: usize) -> usize
-    requires { at ≤ length text.now }
-    ensures { NextEnd text.now at result }
+// The place of the first byte 10, if there is one.
+fn line_end(text: &[u8]) -> Option<usize>
+    ensures { FirstBelow (λ i. get_or text.now i 0 ≡ 10) (length text.now) result }
 {
-    let mut end = at;
-    // No byte from `at` on and before `end` is 10.
-    while end < text.len() {
-        if text[end] == 10 {
-            return end;
-        }
-        end += 1;
-    }
-    end
+    text.iter().position(|&byte| byte == 10)
 }
 
 // The line that starts at a place before the end.
@@ -69,27 +70,23 @@ fn any_line(text: &[u8], at: usize) -> AnyLine
     requires { at < length text.now }
     ensures { AnyLineAt text.now at result }
 {
-    if let Got::Good(line, next) = register_line::reader::line_from(text, at) {
+    if let Some((line, next)) = register_line::reader::line_from(text, at) {
         return AnyLine::Good(line, next);
     }
-    let end = line_end(text, at);
-    if end < text.len() {
-        return AnyLine::Spoiled(end + 1);
+    match line_end(&text[at..]) {
+        Some(end) => AnyLine::Spoiled(at + end + 1),
+        None => AnyLine::Unended,
     }
-    AnyLine::Unended
 }
 
 // The fate of a statement line: one that is late and kept is moved.
 fn moved_if(late: bool, fate: u8) -> u8
     ensures { result ≡ told_if late fate }
 {
-    if fate != 0 {
-        return fate;
-    }
-    if late { 4 } else { 0 }
+    if late && fate == 0 { 4 } else { fate }
 }
 
-// How many are kept behind a line that was settled with this fate.
+// How many objections are kept behind a line that was settled with this fate.
 fn kept(n: usize, fate: u8) -> usize
     requires { n ≤ 4096 }
     ensures { result ≡ cond (eqb fate 0) (n + 1) n }
@@ -101,104 +98,87 @@ fn kept(n: usize, fate: u8) -> usize
 fn pass_statement(
     text: &[u8],
     at: usize,
-    numbers: &mut [u32],
+    index: &mut NumberIndex,
     marks: &mut [u8],
-    links: &mut [u16],
-    n: usize,
     late: bool,
 ) -> StatementPass
-    requires at_in_bounds { (at < length text.now) × (n ≤ 1024) × (1024 ≤ length numbers.old) × (1024 ≤ length marks.old) }
-    requires indexed { Indexed numbers.old n links.old }
-    ensures { (ls : List TextLine) (S : List StatementLine) → LinesOf (drop at text.now) ls
-        → Stated S n numbers.old marks.old links.old
-        → StatementPassed text.now at ls S late result numbers.new marks.new links.new }
+    requires at_in_bounds { (at < length text.now) × (1024 ≤ length index.old.numbers.now) × (1024 ≤ length marks.old) }
+    requires indexed { IsIndexed index.old }
+    ensures passed { (ls : List TextLine) (S : List StatementLine) → LinesOf (drop at text.now) ls
+        → Stated S index.old.n index.old.numbers.now marks.old index.old.links.now
+        → StatementPassed text.now at ls S late result index.new.n index.new.numbers.now marks.new index.new.links.now }
+    ensures same { SameParts index.old index.new }
 {
     match any_line(text, at) {
         AnyLine::Unended => StatementPass {
             fate: 2,
             next: text.len(),
-            statements: n,
             late,
         },
         AnyLine::Spoiled(next) => StatementPass {
             fate: 3,
             next,
-            statements: n,
             late,
         },
-        AnyLine::Good(line, next) => match line {
-            Line::Objection(_) => StatementPass {
-                fate: 0,
-                next,
-                statements: n,
-                late: true,
-            },
-            Line::Statement(statement) => {
-                let fate = mend_line::settle_statement(numbers, marks, links, n, statement);
-                StatementPass {
-                    fate: moved_if(late, fate),
-                    next,
-                    statements: kept(n, fate),
-                    late,
-                }
-            }
+        AnyLine::Good(Line::Objection(_), next) => StatementPass {
+            fate: 0,
+            next,
+            late: true,
         },
+        AnyLine::Good(Line::Statement(statement), next) => {
+            let fate = mend_line::settle_statement(index, marks, statement);
+            StatementPass {
+                fate: moved_if(late, fate),
+                next,
+                late,
+            }
+        }
     }
 }
 
-// Settles the statements of a text, line by line, and answers how many are kept.
-fn settle_statements(
-    text: &[u8],
-    numbers: &mut [u32],
-    marks: &mut [u8],
-    links: &mut [u16],
-    fates: &mut [u8],
-) -> usize
-    requires text_len_bound { (length text.now ≤ 65535) × StatementRooms numbers.old marks.old fates.old }
-    requires indexed { Indexed numbers.old 0 links.old }
-    ensures { (ls : List TextLine) × StatementsSettled text.now ls result numbers.new marks.new
-        links.new fates.new }
+// Settles the statements of a text, line by line; the index counts those kept.
+fn settle_statements(text: &[u8], index: &mut NumberIndex, marks: &mut [u8], fates: &mut [u8])
+    requires text_len_bound { (length text.now ≤ 65535) × StatementRooms index.old.numbers.now marks.old fates.old }
+    requires indexed { (index.old.n ≡ 0) × IsIndexed index.old }
+    ensures settled { (ls : List TextLine) × StatementsSettled text.now ls index.new.n index.new.numbers.now marks.new
+        index.new.links.now fates.new }
+    ensures same { SameParts index.old index.new }
 {
     let mut at = 0;
-    let mut n = 0;
     let mut k = 0;
     let mut late = false;
-    // The k lines before `at` have a fate, and the rooms hold their n kept statements; `late` tells whether an objection came.
+    // The k lines before `at` have a fate, and the rooms hold those of their statements that are kept; `late` tells whether an
+    // objection came. A line is as long as it is, so no iterator leads from one to the next, and k is counted beside.
     while at < text.len() {
-        let pass = pass_statement(text, at, numbers, marks, links, n, late);
+        let pass = pass_statement(text, at, index, marks, late);
         fates[k] = pass.fate;
         at = pass.next;
-        n = pass.statements;
         late = pass.late;
         k += 1;
     }
-    n
 }
 
 // Passes the line at a place while objections are settled, and puts the fate of an objection.
 fn pass_objection(
     text: &[u8],
     at: usize,
-    numbers: &[u32],
+    index: &NumberIndex,
     marks: &mut [u8],
-    links: &[u16],
     objectors: &mut [u32],
     targets: &mut [u32],
     fates: &mut [u8],
     k: usize,
-    n: usize,
     m: usize,
 ) -> ObjectionPass
-    requires at_in_bounds { (at < length text.now) × (k < length fates.old) × (n ≤ 1024) × (m ≤ 4096)
-        × (1024 ≤ length marks.old) }
-    requires objection_rooms { ObjectionRooms objectors.old targets.old × Indexed numbers.now n links.now
-        × Entered n m objectors.old targets.old }
+    requires at_in_bounds { (at < length text.now) × (k < length fates.old) × (m ≤ 4096) × (1024 ≤ length marks.old) }
+    requires objection_rooms { ObjectionRooms objectors.old targets.old × IsIndexed index.now
+        × Entered index.now.n m objectors.old targets.old }
     ensures { ((ls : List TextLine) (R : Register) → LinesOf (drop at text.now) ls → Valid R
-        → Holds R n m numbers.now marks.old (objectors_in objectors.old)
+        → Holds R index.now.n m index.now.numbers.now marks.old (objectors_in objectors.old)
         (targets_in objectors.old)
-        → ObjectionPassed text.now at ls R n fates.old k result numbers.now marks.new
+        → ObjectionPassed text.now at ls R index.now.n fates.old k result index.now.numbers.now marks.new
         (objectors_in objectors.new) (targets_in objectors.new) fates.new)
-        × Entered n result.objections objectors.new targets.new }
+        × Entered index.now.n result.objections objectors.new targets.new }
 {
     match any_line(text, at) {
         AnyLine::Unended => ObjectionPass {
@@ -209,53 +189,47 @@ fn pass_objection(
             next,
             objections: m,
         },
-        AnyLine::Good(line, next) => match line {
-            Line::Statement(_) => ObjectionPass {
-                next,
-                objections: m,
-            },
-            Line::Objection(objection) => {
-                let fate = mend_line::settle_objection(
-                    numbers, marks, links, objectors, targets, n, m, objection,
-                );
-                fates[k] = fate;
-                ObjectionPass {
-                    next,
-                    objections: kept(m, fate),
-                }
-            }
+        AnyLine::Good(Line::Statement(_), next) => ObjectionPass {
+            next,
+            objections: m,
         },
+        AnyLine::Good(Line::Objection(objection), next) => {
+            let fate = mend_line::settle_objection(index, marks, objectors, targets, m, objection);
+            fates[k] = fate;
+            ObjectionPass {
+                next,
+                objections: kept(m, fate),
+            }
+        }
     }
 }
 
-// Settles the objections of a text whose n statements are settled. Meanwhile the rooms for objectors and targets hold those kept
+// Settles the objections of a text whose statements are settled. Meanwhile the rooms for objectors and targets hold those kept
 // linked; at the end they hold the two lists.
 fn settle_objections(
     text: &[u8],
-    numbers: &[u32],
+    index: &NumberIndex,
     marks: &mut [u8],
-    links: &[u16],
     objectors: &mut [u32],
     targets: &mut [u32],
     fates: &mut [u8],
-    n: usize,
 ) -> KeptCounts
-    requires text_len_bound { (length text.now ≤ 65535) × StatementRooms numbers.now marks.old fates.old
+    requires text_len_bound { (length text.now ≤ 65535) × StatementRooms index.now.numbers.now marks.old fates.old
         × ObjectionRooms objectors.old targets.old }
     requires statements_settled { (ls : List TextLine)
-        × StatementsSettled text.now ls n numbers.now marks.old links.now fates.old }
-    ensures { TextSettled text.now result numbers.now marks.new objectors.new
+        × StatementsSettled text.now ls index.now.n index.now.numbers.now marks.old index.now.links.now fates.old }
+    ensures { TextSettled text.now result index.now.numbers.now marks.new objectors.new
         targets.new fates.new }
 {
+    let n = index.n;
     pair_repeat::begin(objectors, targets, n, 0);
     let mut at = 0;
     let mut m = 0;
     let mut k = 0;
     // The k lines before `at` have their final fate; the rooms hold the n statements and, chained, the m objections kept so far.
+    // As above, k is counted beside.
     while at < text.len() {
-        let pass = pass_objection(
-            text, at, numbers, marks, links, objectors, targets, fates, k, n, m,
-        );
+        let pass = pass_objection(text, at, index, marks, objectors, targets, fates, k, m);
         at = pass.next;
         m = pass.objections;
         k += 1;
@@ -283,6 +257,45 @@ pub fn settle_text(
         targets.new fates.new }
 {
     let mut links = [0u16; 8200];
-    let n = settle_statements(text, numbers, marks, &mut links, fates);
-    settle_objections(text, numbers, marks, &links, objectors, targets, fates, n)
+    let mut index = NumberIndex {
+        numbers,
+        links: &mut links,
+        n: 0,
+    };
+    settle_statements(text, &mut index, marks, fates);
+    settle_objections(text, &index, marks, objectors, targets, fates)
+}
+
+// Mends a text in rooms for a register, which are one value, and a room for 65,535 fates.
+pub fn settle_rooms<'a>(
+    text: &[u8],
+    rooms: &'a mut RegisterRooms,
+    fates: &'a mut [u8],
+) -> MendedText<'a>
+    requires { (length text.now ≤ 65535) × (65535 ≤ length fates.old) }
+    ensures { MendedAs text.now result }
+{
+    let KeptCounts {
+        statements,
+        objections,
+        lines,
+    } = settle_text(
+        text,
+        &mut rooms.numbers,
+        &mut rooms.marks,
+        &mut rooms.objectors,
+        &mut rooms.targets,
+        fates,
+    );
+    let pairs = Pairs {
+        marks: &rooms.marks[..statements],
+        objectors: &rooms.objectors[..objections],
+        targets: &rooms.targets[..objections],
+    };
+    let register = NumberedPairs {
+        numbers: &rooms.numbers[..statements],
+        pairs,
+    };
+    let fates = &fates[..lines];
+    MendedText { register, fates }
 }

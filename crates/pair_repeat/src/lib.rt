@@ -7,10 +7,13 @@
 // those against a target with at most 64 objectors take 64 at most; at most 64 targets have more, so of the objections by one
 // statement at most 64 are against such, each in as many steps at most as that statement has objections. No contract counts
 // steps.
+//
+// The two rooms and the counts, n statements and m entries, are lent one by one: each caller holds the rooms as two lists of its
+// own and counts by itself, so a struct of them would be made anew at each call, and each clause here would be longer by it.
 #![tactic(auto)]
 
 ghost use Rattle.std.specs.Prelude.{◌≡◌, ◌≤◌, ℕ, ◌<◌, ◌+◌, length, set, take};
-ghost use Rattle.game.specs.Questions.{Found};
+ghost use Rattle.game.specs.Questions.{FirstBelow};
 ghost use Rattle.pair_words.specs.Words.{begin_against, begin_by, objectors_in, targets_in};
 ghost use Rattle.lists.specs.Refuses.{Same};
 ghost use Rattle.pair_repeat.specs.Entered.{Entered};
@@ -22,54 +25,58 @@ fn clear(links: &mut [u32], n: usize)
     requires { (n ≤ 1024) × (3072 ≤ length links.old) }
     ensures { (v : ℕ) → v < n → (begin_against links.new v ≡ 0) × (begin_by links.new v ≡ 0) }
 {
-    let mut v = 0;
     // No chain of the first v statements has begun, neither by objector nor by target.
-    while v < n {
+    for v in 0..n {
         pair_words::put_begins(links, v, v, 0);
-        v += 1;
     }
 }
 
 // Readies the rooms for the first objection, and leaves them as they are later on.
 pub fn begin(pairs: &[u32], links: &mut [u32], n: usize, m: usize)
-    requires n_bound { (n ≤ 1024) × (4096 ≤ length pairs.now) × (3072 ≤ length links.old) }
+    requires room { (n ≤ 1024) × (4096 ≤ length pairs.now) × (3072 ≤ length links.old) }
     requires entered { 0 < m → Entered n m pairs.now links.old }
     ensures { Entered n m pairs.now links.new }
 {
-    if m > 0 {
-        return;
+    if m == 0 {
+        clear(links, n);
     }
-    clear(links, n);
 }
 
-// The first of the m entries that is the objection of y against x, or m.
-pub fn pair_at(pairs: &[u32], links: &[u32], n: usize, m: usize, y: usize, x: usize) -> usize
+// The first of the m entries that is the objection of y against x, if one is.
+pub fn pair_at(
+    pairs: &[u32],
+    links: &[u32],
+    n: usize,
+    m: usize,
+    y: usize,
+    x: usize,
+) -> Option<usize>
     requires { Entered n m pairs.now links.now × (m ≤ 4096) × (y < n) × (x < n) }
-    ensures { Found (Same (objectors_in pairs.now) (targets_in pairs.now) y x) m result }
+    ensures { FirstBelow (Same (objectors_in pairs.now) (targets_in pairs.now) y x) m result }
 {
     let mut by = begin_by(links, y);
     let mut against = begin_against(links, x);
     // No entry passed, on the chain by y or on the chain against x, is the objection of y against x.
     while by > 0 {
         if against == 0 {
-            return m;
+            return None;
         }
         if target_of(pairs, by - 1) == x {
-            return by - 1;
+            return Some(by - 1);
         }
         if objector_of(pairs, against - 1) == y {
-            return against - 1;
+            return Some(against - 1);
         }
         by = link_by(links, by - 1);
         against = link_against(pairs, against - 1);
     }
-    m
+    None
 }
 
 // Enters an objection that does not stand yet.
 pub fn enter(pairs: &mut [u32], links: &mut [u32], n: usize, m: usize, y: usize, x: usize)
     requires entered { Entered n m pairs.old links.old × (m < 4096) × (y < n) × (x < n) }
-    requires by_index { (e : ℕ) → e < m → ¬ Same (objectors_in pairs.old) (targets_in pairs.old) y x e }
+    requires new { (e : ℕ) → e < m → ¬ Same (objectors_in pairs.old) (targets_in pairs.old) y x e }
     ensures { Entered n (m + 1) pairs.new links.new
         × (objectors_in pairs.new ≡ set (objectors_in pairs.old) m y)
         × (targets_in pairs.new ≡ set (targets_in pairs.old) m x) }
@@ -82,17 +89,16 @@ pub fn enter(pairs: &mut [u32], links: &mut [u32], n: usize, m: usize, y: usize,
 }
 
 // Gives the lists of the first m objectors and targets back, each in a room of its own.
+#[tactic(auto, unfolding(pair_words::specs::Words::objectors_in, pair_words::specs::Words::targets_in))]
 pub fn unpack(pairs: &mut [u32], links: &mut [u32], m: usize)
     requires { (m ≤ length pairs.old) × (m ≤ length links.old) }
     ensures { (take m pairs.new ≡ take m (objectors_in pairs.old))
         × (take m links.new ≡ take m (targets_in pairs.old)) }
 {
-    let mut e = 0;
     // `pairs` begins with the first e objectors and `links` with the first e targets; `pairs` is as it was from e on.
-    while e < m {
+    for e in 0..m {
         let word = pairs[e];
         links[e] = word / 1024 % 1024;
         pairs[e] = word % 1024;
-        e += 1;
     }
 }

@@ -7,17 +7,17 @@
 //                 word e - 3,072    high part: that link for e from 3,072 on
 //                 word 1,024 + 2x   high part: where the chain against x begins; in word 1,025 + 2y: where that by y begins
 //
-// A link is the latest earlier entry, counted from 1, and 0 is none. Beginnings stand in turn, since words 4,096 bytes apart that
-// are read just after one of them was stored to can make a processor wait.
+// A link is the latest earlier entry, counted from 1, and 0 is none: a part of a word has no room for an Option. Beginnings stand
+// in turn, since words 4,096 bytes apart that are read just after one of them was stored to can make a processor wait.
 #![tactic(auto)]
 
 ghost use Rattle.std.specs.Prelude.{◌≡◌, ◌<◌, ◌/◌, ◌≤◌, length, get_or};
 ghost use Rattle.pair_words.specs.Words.{objectors_in, targets_in, link_against, link_by, begin_against, begin_by, with_pair};
 ghost use Rattle.pair_words.specs.Words.{with_low, with_high, with_link_by, with_begins};
 
-use pair_chain::place;
-
-// The objector of an entry.
+// The objector of an entry. It and the target's are not one function: each is named by its own definition, `objectors_in` and
+// `targets_in`, which the contracts cite, and one function with the constant as a parameter would be no plainer.
+#[tactic(auto, unfolding(crate::specs::Words::objectors_in))]
 pub fn objector_of(pairs: &[u32], e: usize) -> usize
     requires { e < length pairs.now }
     ensures { result ≡ get_or (objectors_in pairs.now) e 0 }
@@ -26,6 +26,7 @@ pub fn objector_of(pairs: &[u32], e: usize) -> usize
 }
 
 // The target of an entry.
+#[tactic(auto, unfolding(crate::specs::Words::targets_in))]
 pub fn target_of(pairs: &[u32], e: usize) -> usize
     requires { e < length pairs.now }
     ensures { result ≡ get_or (targets_in pairs.now) e 0 }
@@ -34,11 +35,12 @@ pub fn target_of(pairs: &[u32], e: usize) -> usize
 }
 
 // The latest earlier entry against the target of this one, counted from 1, or 0.
+#[tactic(auto, unfolding(crate::specs::Words::link_against))]
 pub fn link_against(pairs: &[u32], e: usize) -> usize
     requires { e < length pairs.now }
     ensures { result ≡ link_against pairs.now e }
 {
-    place(pairs[e]) / 1048576
+    (pairs[e] / 1048576) as usize
 }
 
 // The high part of a word of links.
@@ -49,6 +51,7 @@ fn high_in(word: u32) -> usize
 }
 
 // The latest earlier entry by the objector of this one, counted from 1, or 0.
+#[tactic(auto, unfolding(crate::specs::Words::link_by, crate::specs::Words::low, crate::specs::Words::high))]
 pub fn link_by(links: &[u32], e: usize) -> usize
     requires { (e < 4096) × (3072 ≤ length links.now) }
     ensures { result ≡ link_by links.now e }
@@ -59,7 +62,9 @@ pub fn link_by(links: &[u32], e: usize) -> usize
     high_in(links[e - 3072])
 }
 
-// The latest entry against a target, counted from 1, or 0.
+// The latest entry against a target, counted from 1, or 0. It and the one below are not one function: each is named by its own
+// definition, which its contract cites, and one function with the constant as a parameter would be no plainer.
+#[tactic(auto, unfolding(crate::specs::Words::begin_against, crate::specs::Words::high))]
 pub fn begin_against(links: &[u32], x: usize) -> usize
     requires { (x < 1024) × (3072 ≤ length links.now) }
     ensures { result ≡ begin_against links.now x }
@@ -68,6 +73,7 @@ pub fn begin_against(links: &[u32], x: usize) -> usize
 }
 
 // The latest entry by an objector, counted from 1, or 0.
+#[tactic(auto, unfolding(crate::specs::Words::begin_by, crate::specs::Words::high))]
 pub fn begin_by(links: &[u32], y: usize) -> usize
     requires { (y < 1024) × (3072 ≤ length links.now) }
     ensures { result ≡ begin_by links.now y }
@@ -76,6 +82,7 @@ pub fn begin_by(links: &[u32], y: usize) -> usize
 }
 
 // Puts an entry: its objector, its target and its link among those against the target.
+#[tactic(auto, unfolding(crate::specs::Words::with_pair))]
 pub fn put_pair(pairs: &mut [u32], e: usize, y: usize, x: usize, l: usize)
     requires { (e < length pairs.old) × (y < 1024) × (x < 1024) × (l < 4096) }
     ensures { pairs.new ≡ with_pair pairs.old e y x l }
@@ -84,6 +91,7 @@ pub fn put_pair(pairs: &mut [u32], e: usize, y: usize, x: usize, l: usize)
 }
 
 // Puts the low part of a word of links, and leaves the high one.
+#[tactic(auto, unfolding(crate::specs::Words::with_low))]
 fn put_low(links: &mut [u32], i: usize, v: usize)
     requires { (i < length links.old) × (v < 4096) }
     ensures { links.new ≡ with_low links.old i v }
@@ -93,6 +101,7 @@ fn put_low(links: &mut [u32], i: usize, v: usize)
 }
 
 // Puts the high part of a word of links, and leaves the low one.
+#[tactic(auto, unfolding(crate::specs::Words::with_high))]
 fn put_high(links: &mut [u32], i: usize, v: usize)
     requires { (i < length links.old) × (v ≤ 4096) }
     ensures { links.new ≡ with_high links.old i v }
@@ -101,6 +110,7 @@ fn put_high(links: &mut [u32], i: usize, v: usize)
 }
 
 // Puts the link of an entry among those by its objector.
+#[tactic(auto, unfolding(crate::specs::Words::with_link_by))]
 pub fn put_link_by(links: &mut [u32], e: usize, l: usize)
     requires { (e < 4096) × (l < 4096) × (3072 ≤ length links.old) }
     ensures { links.new ≡ with_link_by links.old e l }
@@ -113,6 +123,7 @@ pub fn put_link_by(links: &mut [u32], e: usize, l: usize)
 }
 
 // Puts where the chains of an objector and of a target begin: an entry counted from 1, or 0.
+#[tactic(auto, unfolding(crate::specs::Words::with_begins))]
 pub fn put_begins(links: &mut [u32], y: usize, x: usize, b: usize)
     requires { (y < 1024) × (x < 1024) × (b ≤ 4096) × (3072 ≤ length links.old) }
     ensures { links.new ≡ with_begins links.old y x b }

@@ -7,7 +7,7 @@ use lib.ListN.{length, take}
 use Rattle.register.specs.Reads.{Accepts}
 use Rattle.catalogue.specs.Regrouped.{catalogued}
 use Rattle.catalogue.proofs.ThereAndBack.{catalogue_short}
-use Rattle.answer.specs.declared.Answer.{Answer}
+use Rattle.answer.specs.Answer.{Answer}
 use Rattle.promises.specs.CatalogueCalls.{TextCatalogue}
 use Rattle.promises.specs.Programs.{PrintsCatalogue}
 use Rattle.promises.proofs.Programs.{fault_told}

@@ -5,8 +5,6 @@
 ghost use Rattle.std.specs.Prelude.{◌≤◌, length, take};
 ghost use Rattle.promises.specs.Programs.{PrintsCatalogue};
 
-use program_stream::Input;
-
 // Puts what is to be printed at the start of the room, and answers how many bytes it has.
 fn output(text: &[u8], room: &mut [u8]) -> usize
     requires { 65535 ≤ length room.old }
@@ -16,22 +14,8 @@ fn output(text: &[u8], room: &mut [u8]) -> usize
     program_stream::put_answer(answer, room)
 }
 
-fn print_catalogue(rt: HostRuntime, text: &[u8]) {
-    let mut room = [0u8; 65536];
-    let n = output(text, &mut room);
-    program_stream::print_bytes(rt, &room, n, b"catalogue: standard output");
-}
-
-// The buffer is one byte longer than a register text may be, so that a longer one is refused.
+// The room is large enough for any catalogue.
 fn main(rt: HostRuntime) {
-    let mut text = [0u8; 65536];
-    let Input::Bytes(n) = program_stream::read_filter(
-        rt,
-        &mut text,
-        b" <register\n",
-        b"catalogue: standard input",
-    ) else {
-        return;
-    };
-    print_catalogue(rt, &text[..n]);
+    let mut room = [0u8; 65536];
+    program_stream::filter(rt, b" <register\n", b"catalogue", &mut room, output);
 }

@@ -10,7 +10,7 @@ use Rattle.register.specs.Reads.{Accepts}
 use Rattle.listing.specs.Listing.{IsListing}
 use Rattle.listing.proofs.Listing.{listing_short}
 use Rattle.answer.specs.Answer.{Short, RefusedOn, GivenOn}
-use Rattle.answer.specs.declared.Answer.{Answer}
+use Rattle.answer.specs.Answer.{Answer}
 use Rattle.promises.specs.OnText.{TextRefused}
 use Rattle.promises.specs.ListingCalls.{ListingShort, TextListing, ListingIn}
 use Rattle.program_stream.specs.PutAnswer.{PutOf}

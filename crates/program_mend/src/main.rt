@@ -8,10 +8,9 @@ ghost use Rattle.program_mend.specs.Sizes.{Inside, outcome_in};
 ghost use Rattle.promises.specs.Programs.{Mends};
 
 use answer::Answer;
-use program_stream::Input;
 use std::env::FillError;
 use std::fs::{File, OpenOptions};
-use std::rt::{Env, Stderr};
+use std::rt::Env;
 use std::{fs, io};
 
 // The numbers that the system has for two errors: a name that is longer than a path may be, and bytes that are no text.
@@ -21,75 +20,64 @@ const NO_TEXT: i32 = 84;
 
 // How many bytes are to be printed, and of a mended text how many are to be reported. A refused one has no report, not even an
 // empty one.
-#[derive(Drop)]
-enum Sizes {
-    Refused(usize),
-    Mended(usize, usize),
-}
-
-// Where the report goes: into the file that was made for it, or to standard error.
-#[derive(Drop)]
-enum Reported {
-    Into(File),
-    Aloud(Stderr),
+struct Sizes {
+    printed: usize,
+    reported: Option<usize>,
 }
 
 // Puts what is to be printed and what is to be reported at the start of the two rooms.
 fn output(text: &[u8], room: &mut [u8], report: &mut [u8]) -> Sizes
     requires { (65535 ≤ length room.old) × (16 * 65535 ≤ length report.old) }
-    ensures { Inside result room.new report.new × Mends text.now
-        (outcome_in result room.new report.new) }
+    ensures { Inside result.printed result.reported room.new report.new × Mends text.now
+        (outcome_in result.printed result.reported room.new report.new) }
 {
     let mut reported: u32 = 0;
     let answer = call_mend::text_mend(text, room, report, &mut reported);
-    let Answer::Given(printed) = answer else {
-        return Sizes::Refused(program_stream::put_answer(answer, room));
+    let Ok(printed) = answer else {
+        return Sizes {
+            printed: program_stream::put_answer(answer, room),
+            reported: None,
+        };
     };
-    Sizes::Mended(printed as usize, reported as usize)
+    Sizes {
+        printed: printed as usize,
+        reported: Some(reported as usize),
+    }
 }
 
-// Writes the report, and closes the file that was made for it. Answers why not all of it is there. That is in doubt until the
-// file is on its disk; std says nothing of a close that failed, so the system is asked before.
-fn write_report(to: Reported, report: &[u8], n: usize) -> io::Result<()>
-    requires { n ≤ length report.now }
-{
-    match to {
-        Reported::Into(mut file) => {
-            program_stream::write_pieces(&mut file, report, n)?;
-            file.sync_data()
-        }
-        Reported::Aloud(mut errors) => program_stream::write_pieces(&mut errors, report, n),
-    }
+// Writes the report to the file that was made for it, and closes that, or where none was made, to standard error. Answers why not
+// all of it is there. That is in doubt until the file is on its disk; std says nothing of a close that failed, so the system is
+// asked before.
+fn write_report(rt: HostRuntime, made: Option<File>, report: &[u8]) -> io::Result<()> {
+    let Some(mut file) = made else {
+        return program_stream::write_pieces(&mut rt.stderr(), report);
+    };
+    program_stream::write_pieces(&mut file, report)?;
+    file.sync_data()
 }
 
 // The report goes first: where it can't be written, nothing is printed. Answers whether there is a report.
-fn print_mended(rt: HostRuntime, text: &[u8], to: Reported) -> bool {
+fn print_mended(rt: HostRuntime, text: &[u8], made: Option<File>) -> bool {
     let mut room = [0u8; 65536];
     let mut report = program_stream::report_room();
-    let put = output(text, &mut room, &mut report);
-    match put {
-        Sizes::Refused(n) => {
-            program_stream::print_bytes(rt, &room, n, b"mend: standard output");
-            false
-        }
-        Sizes::Mended(n, reported) => {
-            if let Err(error) = write_report(to, &report, reported) {
-                program_stream::say_failure(rt, b"mend: report", error);
-                return false;
-            }
-            program_stream::print_bytes(rt, &room, n, b"mend: standard output");
-            true
+    let Sizes { printed, reported } = output(text, &mut room, &mut report);
+    if let Some(n) = reported {
+        if let Err(error) = write_report(rt, made, &report[..n]) {
+            program_stream::say_failure(rt, b"mend: report", error);
+            return false;
         }
     }
+    program_stream::print_bytes(rt, &room[..printed], b"mend");
+    reported.is_some()
 }
 
 // The buffer is one byte longer than a text may be, so that a longer one is refused. Answers whether there is a report.
-fn mend_input(rt: HostRuntime, to: Reported) -> bool {
-    let mut text = [0u8; 65536];
-    let Input::Bytes(n) = program_stream::read_all(rt, &mut text, b"mend: standard input") else {
+fn mend_input(rt: HostRuntime, made: Option<File>) -> bool {
+    let mut buffer = [0u8; 65536];
+    let Some(text) = program_stream::read_all(rt, &mut buffer, b"mend") else {
         return false;
     };
-    print_mended(rt, &text[..n], to)
+    print_mended(rt, text, made)
 }
 
 // Makes a file to write to, which must not be there yet.
@@ -110,7 +98,7 @@ fn say_not_made(rt: HostRuntime, path: &[u8], error: io::Error) {
 fn mend_into(rt: HostRuntime, path: &str) {
     match make_new(rt, path) {
         Ok(file) => {
-            if !mend_input(rt, Reported::Into(file)) {
+            if !mend_input(rt, Some(file)) {
                 let _ = fs::remove_file(&rt, path);
             }
         }
@@ -132,7 +120,7 @@ fn main(rt: HostRuntime) {
     let mut path = [0u8; 4096];
     match rt.arg(1, &mut path) {
         Err(FillError::NotPresent) => {
-            mend_input(rt, Reported::Aloud(rt.stderr()));
+            mend_input(rt, None);
         }
         _ if program_stream::has_word(rt, 2) || program_stream::is_option(&path) => {
             program_stream::print_usage(rt, b" [REPORT] <register\n");

@@ -1,7 +1,7 @@
 -- From what the library promises of a reason to what the program prints.
 use mathlib.Core.List.{List}
 use mathlib.Core.Logic.{⊎_elim, inl, inr}
-use mathlib.Core.Path.{subst, ap, refl, sym, ◌∙◌}
+use mathlib.Core.Path.{subst, ap, ◌∙◌}
 use Prim.Native.Nat.{ℕ, ◌≤◌, ◌<◌}
 use native.Mathlib.Omega.{arith}
 use lib.ListN.{get_or, length, take}
@@ -11,8 +11,7 @@ use Rattle.register.specs.Register.{Register, Places, Issued, numbers}
 use Rattle.register.specs.Reads.{Accepts}
 use Rattle.register.proofs.Number.{number_above}
 use Rattle.listing.specs.Rows.{refused_row}
-use Rattle.answer.specs.declared.Answer.{Answer}
-use Rattle.answer.specs.declared.Answer.TheVariants.{Refused, Given}
+use Rattle.answer.specs.Answer.{Answer}
 use Rattle.answer.specs.Answer.{RefusedOn, GivenOn}
 use Rattle.program_reason.specs.AskedNumber.{NumberOf}
 use Rattle.promises.specs.OnText.{TextRefused}
@@ -22,17 +21,9 @@ use Rattle.reason.proofs.Reasons.{reason_short}
 use Rattle.program_stream.specs.PutAnswer.{PutOf}
 use Rattle.program_stream.proofs.PutAnswer.{put_shown}
 use Rattle.promises.specs.Programs.{NoneNamed, PrintsRefusal, PrintsReason}
-use Rattle.promises.specs.NumberCalls.{Names, NumberCode}
+use Rattle.promises.specs.NumberCalls.{Names}
 use Rattle.promises.proofs.OnNumber.{names_once}
 use Rattle.promises.proofs.Programs.{fault_printed}
-
--- the code of the argument, or that it has none
-pub code_asked : (argument : List ℕ) (number : ℕ) → NumberCode argument (Given number) → NumberOf argument number
-code_asked argument number (n, p, e) = inl (subst (Names argument) (sym e) p)
-
-pub none_asked : (argument : List ℕ) (r : Refusal) → NumberCode argument (Refused r) → NumberOf argument 0
-none_asked argument r (inl p, q) = inr (refl, p.0)
-none_asked argument r (inr p, q) = absurd p.2
 
 module _ (s argument room : List ℕ) (long : 131072 ≤ length room) (number : ℕ) (asked : NumberOf argument number) where
   -- the number of a statement is not 0, so it is the argument's

@@ -9,17 +9,17 @@ ghost use Rattle.promises.specs.Programs.{PrintsReason};
 ghost use Rattle.program_reason.specs.AskedNumber.{NumberOf};
 
 use answer::Answer;
-use program_stream::Input;
 use std::rt::Env;
 
-// The number that the argument is, by its code, or 0, which is nobody's.
+// The number that the argument is, by its code, or 0, which is nobody's. No Option: the call is made all the same, since a text's
+// own fault is said before that nothing has the number.
 fn number_of(argument: &[u8]) -> u32
     ensures { NumberOf argument.now result }
 {
     let answer = call_number::number_code(argument);
     match answer {
-        Answer::Given(number) => number,
-        Answer::Refused(_) => 0,
+        Ok(number) => number,
+        Err(_) => 0,
     }
 }
 
@@ -32,21 +32,6 @@ fn output(text: &[u8], argument: &[u8], room: &mut [u8]) -> usize
     let number = number_of(argument);
     let answer = call_reason::text_reason(text, number, room);
     program_stream::put_answer(answer, room)
-}
-
-fn print_reason(rt: HostRuntime, text: &[u8], argument: &[u8]) {
-    let mut room = [0u8; 131072];
-    let n = output(text, argument, &mut room);
-    program_stream::print_bytes(rt, &room, n, b"reason: standard output");
-}
-
-// The buffer is one byte longer than a register text may be, so that a longer one is refused.
-fn answer_for(rt: HostRuntime, argument: &[u8]) {
-    let mut text = [0u8; 65536];
-    let Input::Bytes(n) = program_stream::read_all(rt, &mut text, b"reason: standard input") else {
-        return;
-    };
-    print_reason(rt, &text[..n], argument);
 }
 
 // 16 zeros, room for any number as it is written.
@@ -66,5 +51,12 @@ fn main(rt: HostRuntime) {
         program_stream::print_usage(rt, b" NUMBER <register\n");
         return;
     }
-    answer_for(rt, &argument[..n]);
+    let number = &argument[..n];
+    let mut room = [0u8; 131072];
+    program_stream::print_answer(
+        rt,
+        b"reason",
+        &mut room,
+        |text, room| output(text, number, room),
+    );
 }

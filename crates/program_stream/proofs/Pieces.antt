@@ -1,20 +1,10 @@
 -- Pieces that come one after the other are, joined, the bytes up to where the last one ends.
 use mathlib.Core.List.{List, append_assoc, [], ◌∷◌, ◌++◌}
 use mathlib.Core.Path.{ap, sym, refl, ◌≡◌, ◌∙◌}
-use Prim.Native.Nat.{ℕ, ◌+◌, ◌≤◌, ◌<◌}
-use native.Mathlib.Omega.{arith}
-use lib.ListN.{take-append-drop, take}
-use lib.Seq.{slice, take-take}
-use Rattle.program_stream.specs.Pieces.{Piece, Pieces, none_yet, one_more}
-
-pub cut : (room : List ℕ) (n start end : ℕ) → start < end → end ≤ start + 65536 → end ≤ n → Piece room n start end
-cut room n start end s m i = record {
-  some = s;
-  most = m;
-  inside = i;
-  joined =
-      ap (λ u. u ++ slice start end room) (sym (take-take start end room (omega arith))) ∙ take-append-drop start (take end room);
-}
+use Prim.Native.Nat.{ℕ}
+use lib.ListN.{take}
+use lib.Seq.{slice}
+use Rattle.program_stream.specs.Pieces.{Pieces, none_yet, one_more}
 
 abbrev pub join : List (List ℕ) → List ℕ
 join [] = []

@@ -1,5 +1,5 @@
 -- What was promised of a call, and put, is what is printed: the answer, or the line of a refusal that is due.
-use mathlib.Core.List.{List, ◌++◌}
+use mathlib.Core.List.{List}
 use mathlib.Core.Logic.{inl, inr, ◌⊎◌, ⊎_elim}
 use mathlib.Core.Path.{ap, refl, subst, sym, ◌≡◌, ◌∙◌}
 use Prim.Native.Nat.{ℕ, ◌≤◌, ◌<◌}
@@ -10,8 +10,8 @@ use Rattle.answer.specs.Refusals.{refusal_number, refusal_place}
 use Rattle.answer.specs.declared.Refusal.{Refusal}
 use Rattle.listing.specs.Rows.{refused_row}
 use Rattle.answer.specs.Answer.{Written, Promised, OnInput, RefusedOn, GivenOn, Short}
-use Rattle.answer.specs.declared.Answer.{Answer}
-use Rattle.answer.specs.declared.Answer.TheVariants.{Given, Refused}
+use Rattle.answer.specs.Answer.{Answer}
+use Rattle.std.specs.Prelude.{Ok, Err}
 use Rattle.program_stream.specs.PutAnswer.{PutOf}
 
 -- what a room begins with
@@ -22,11 +22,6 @@ begins l room n after (c, h, e) = (
       ∙ take-append_seam l (drop (length l) room),
 )
 
--- a line that was written into a room which kept its length had room there
-pub put_row : (row room : List ℕ) (n : ℕ) (after : List ℕ) → length after ≡ length room → n ≡ length row
-    → after ≡ row ++ drop (length row) room → Written row room n after
-put_row row room n after k c e = (c, omega (arith, k, ap length e, length-append row (drop (length row) room)), e)
-
 -- what is printed is right, or is the line of a refusal that is due
 abbrev pub Shown : (refuses : Refusal → Type 0) → (right : List ℕ → Type 0) → List ℕ → Type 0
 Shown refuses right printed =
@@ -36,11 +31,11 @@ module _ (refuses : Refusal → Type 0) (gives : ℕ → List ℕ → Type 0) (r
     (given : (n : ℕ) (after : List ℕ) → gives n after → (l : List ℕ) × right l × Written l room n after) where
   pub put_shown : (a : Answer) (after : List ℕ) (size : ℕ) (put : List ℕ) → Promised refuses gives room a after
       → PutOf a after size put → (size ≤ length put) × Shown refuses right (take size put)
-  put_shown (Given n) after size put p (same, stays) =
+  put_shown (Ok n) after size put p (same, stays) =
       let (l, is, w) = given n after p in
       let (fits, starts) = begins l room size put (same ∙ w.0, w.1, stays ∙ w.2) in
       (fits, inl (subst right (sym starts) is))
-  put_shown (Refused r) after size put p w =
+  put_shown (Err r) after size put p w =
       let (fits, starts) = begins (refused_row (refusal_number r) (refusal_place r)) after size put w in
       (fits, inr (r, p.0, starts))
 

@@ -1,9 +1,8 @@
--- What reading answers: how many bytes are in a room, or that a read failed. Which bytes came, no contract can say.
-use Rattle.std.specs.Prelude.{ℕ, ◌≤◌}
-use Rattle.program_stream.specs.declared.Input.{Input}
-use Rattle.program_stream.specs.declared.Input.TheVariants.{Bytes, Failed}
+-- What reading answers: the bytes that were read, or that a read failed. Which bytes came, no contract can say.
+use Rattle.std.specs.Prelude.{ℕ, ◌≤◌, List, length, Option, Some, None}
+use Rattle.std.specs.Borrow.{Bor}
 
 -- no more bytes than there is room for
-abbrev pub Within : ℕ → Input → Type 0
-Within most (Bytes n) = n ≤ most
-Within most Failed = Unit {0}
+abbrev pub Within : ℕ → Option (Bor (List ℕ)) → Type 0
+Within most (Some bytes) = length bytes.now ≤ most
+Within most None = Unit {0}

@@ -4,8 +4,9 @@
 // A failure is said on standard error in the words that the system has for it, and no program has an exit status of its own.
 #![tactic(auto)]
 
-ghost use Rattle.std.specs.Prelude.{◌≡◌, ◌≤◌, ◌-◌, ◌<◌, length, IfOk};
+ghost use Rattle.std.specs.Prelude.{◌≡◌, ◌≤◌, ◌<◌, length};
 ghost use Rattle.program_stream.specs.Input.{Within};
+ghost use Rattle.program_stream.specs.Output.{PutsInside, Takes};
 ghost use Rattle.program_stream.specs.Pieces.{Piece};
 ghost use Rattle.program_stream.specs.PutAnswer.{PutOf};
 ghost use Rattle.program_stream.specs.Options.{Option};
@@ -17,31 +18,16 @@ use std::io;
 use std::io::{IsTerminal, Read, Write};
 use std::rt::Env;
 
-#[derive(Drop)]
-pub enum Input {
-    Bytes(usize),
-    Failed,
-}
-
 // Whether a word begins as an option does. No program has one, so that such a word is neither a number nor a file's name.
 pub fn is_option(word: &[u8]) -> bool
     ensures { Option word.now result }
 {
-    if word.len() == 0 {
-        return false;
-    }
-    if word[0] == b'-' {
-        return true;
-    }
-    false
+    word.first() == Some(&b'-')
 }
 
 // Whether the program was started with a word at this place. Its name is at 0.
 pub fn has_word(rt: HostRuntime, place: usize) -> bool {
-    match rt.arg(place, &mut []) {
-        Err(FillError::NotPresent) => false,
-        _ => true,
-    }
+    !matches!(rt.arg(place, &mut []), Err(FillError::NotPresent))
 }
 
 // Says something on standard error. Where that can't be written, it is lost.
@@ -86,44 +72,26 @@ fn tell_waiting(rt: HostRuntime) {
     }
 }
 
-// One read into the room, behind the bytes that are there. No bytes: the input has ended.
-fn read_more(rt: HostRuntime, room: &mut [u8], done: usize) -> io::Result<usize>
-    requires { done ≤ length room.old }
-    ensures { IfOk result (λ n. n ≤ length room.old - done) }
-{
-    rt.stdin().read(&mut room[done..])
-}
-
-// Reads until the input ends, the room is full or a read fails, which is not the end of the input: what failed is said then. At a
-// terminal it says that it waits.
-pub fn read_all(rt: HostRuntime, room: &mut [u8], failed: &[u8]) -> Input
+// Reads until the input ends, the room is full or a read fails, which is not the end of the input: what failed is said then, in
+// the name of the program. At a terminal it says that it waits.
+pub fn read_all<'a>(rt: HostRuntime, room: &'a mut [u8], named: &[u8]) -> Option<&'a [u8]>
     ensures { Within (length room.old) result }
 {
     tell_waiting(rt);
     let mut done = 0;
-    // The `done` bytes read so far are within the room.
+    // The `done` bytes that reads brought are within the room. A read brings any number of them, so this counts no index.
     while done < room.len() {
-        match read_more(rt, room, done) {
+        match rt.stdin().read(&mut room[done..]) {
             Ok(0) => break,
             Ok(n) => done += n,
             Err(error) => {
-                say_failure(rt, failed, error);
-                return Input::Failed;
+                say(rt, named);
+                say_failure(rt, b": standard input", error);
+                return None;
             }
         }
     }
-    Input::Bytes(done)
-}
-
-// The input of a filter. With a word it says how it is used, and where a read fails, what failed; either way there is no input.
-pub fn read_filter(rt: HostRuntime, room: &mut [u8], words: &[u8], failed: &[u8]) -> Input
-    ensures { Within (length room.old) result }
-{
-    if has_word(rt, 1) {
-        print_usage(rt, words);
-        return Input::Failed;
-    }
-    read_all(rt, room, failed)
+    Some(&room[..done])
 }
 
 // Leaves what was given, or puts the one line of the refusal at the start of the room, and answers how many bytes are to be
@@ -133,8 +101,8 @@ pub fn put_answer(answer: Answer, room: &mut [u8]) -> usize
     ensures { PutOf answer room.old result room.new }
 {
     match answer {
-        Answer::Given(n) => n as usize,
-        Answer::Refused(refused) => {
+        Ok(n) => n as usize,
+        Err(refused) => {
             let number = answer_number::refusal_number(refused);
             let place = answer_number::refusal_place(refused);
             listing_row::write_refusal(number, place, room)
@@ -150,32 +118,71 @@ pub fn report_room() -> [u8; 1048576]
 }
 
 // Where the piece that starts at a place ends.
-fn piece_end(room: &[u8], n: usize, start: usize) -> usize
-    requires { (start < n) × (n ≤ length room.now) }
-    ensures { Piece room.now n start result }
+fn piece_end(bytes: &[u8], start: usize) -> usize
+    requires { start < length bytes.now }
+    ensures { Piece bytes.now (length bytes.now) start result }
 {
-    if n - start <= 65536 { n } else { start + 65536 }
+    if bytes.len() - start <= 65536 {
+        bytes.len()
+    } else {
+        start + 65536
+    }
 }
 
-// Writes the first n bytes of the room to an open file or a stream, piece by piece. Where not all are taken, it answers why.
-pub fn write_pieces<W: Write>(to: &mut W, room: &[u8], n: usize) -> io::Result<()>
-    requires { n ≤ length room.now }
-{
+// Writes bytes to an open file or a stream, piece by piece. Where not all are taken, it answers why. Not over `chunks`: how large
+// a piece is at most is the contract of `piece_end`, on which docs/PROMISES.md stands.
+pub fn write_pieces<W: Write>(to: &mut W, bytes: &[u8]) -> io::Result<()> {
     let mut start: usize = 0;
-    // The first `start` bytes were taken, and they are at most n.
-    while start < n {
-        let end = piece_end(room, n, start);
-        to.write_all(&room[start..end])?;
+    // The first `start` bytes were taken, in whole pieces.
+    while start < bytes.len() {
+        let end = piece_end(bytes, start);
+        to.write_all(&bytes[start..end])?;
         start = end;
     }
     Ok(())
 }
 
-// Writes the first n bytes of the room to standard output, and where they are not taken, says what failed.
-pub fn print_bytes(rt: HostRuntime, room: &[u8], n: usize, failed: &[u8])
-    requires { n ≤ length room.now }
-{
-    if let Err(error) = write_pieces(&mut rt.stdout(), room, n) {
-        say_failure(rt, failed, error);
+// Writes bytes to standard output, and where they are not taken, says what failed, in the name of the program.
+pub fn print_bytes(rt: HostRuntime, bytes: &[u8], named: &[u8]) {
+    if let Err(error) = write_pieces(&mut rt.stdout(), bytes) {
+        say(rt, named);
+        say_failure(rt, b": standard output", error);
     }
+}
+
+// Reads the input whole, and prints what `output` puts for it at the start of the room, as many bytes as it answers. Where a read
+// fails, nothing is printed. The buffer is one byte longer than an input may be, so that a longer one is refused.
+pub fn print_answer<F: FnOnce(&[u8], &mut [u8]) -> usize + Drop>(
+    rt: HostRuntime,
+    named: &[u8],
+    room: &mut [u8],
+    output: F,
+)
+    requires takes { Takes (F.pre output) (length room.old) }
+    requires puts { PutsInside (F.post output) (length room.old) }
+{
+    let mut text = [0u8; 65536];
+    let Some(bytes) = read_all(rt, &mut text, named) else {
+        return;
+    };
+    let n = output(bytes, room);
+    print_bytes(rt, &room[..n], named);
+}
+
+// A filter, which takes no word: with one it says how it is used, and reads nothing.
+pub fn filter<F: FnOnce(&[u8], &mut [u8]) -> usize + Drop>(
+    rt: HostRuntime,
+    words: &[u8],
+    named: &[u8],
+    room: &mut [u8],
+    output: F,
+)
+    requires takes { Takes (F.pre output) (length room.old) }
+    requires puts { PutsInside (F.post output) (length room.old) }
+{
+    if has_word(rt, 1) {
+        print_usage(rt, words);
+        return;
+    }
+    print_answer(rt, named, room, output);
 }

@@ -6,7 +6,7 @@ use native.Mathlib.Omega.{arith}
 use lib.ListN.{length, take}
 use Rattle.register.specs.Register.{written}
 use Rattle.catalogue.specs.CatalogueReads.{CatalogueAccepts}
-use Rattle.answer.specs.declared.Answer.{Answer}
+use Rattle.answer.specs.Answer.{Answer}
 use Rattle.promises.specs.CatalogueCalls.{CatalogueText}
 use Rattle.promises.specs.Programs.{PrintsOldForm}
 use Rattle.promises.proofs.Programs.{fault_told}

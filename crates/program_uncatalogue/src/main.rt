@@ -6,8 +6,6 @@
 ghost use Rattle.std.specs.Prelude.{◌≤◌, length, take};
 ghost use Rattle.promises.specs.Programs.{PrintsOldForm};
 
-use program_stream::Input;
-
 // Puts what is to be printed at the start of the room, and answers how many bytes it has.
 fn output(catalogue: &[u8], room: &mut [u8]) -> usize
     requires { 65535 ≤ length room.old }
@@ -17,22 +15,8 @@ fn output(catalogue: &[u8], room: &mut [u8]) -> usize
     program_stream::put_answer(answer, room)
 }
 
-fn print_old_form(rt: HostRuntime, catalogue: &[u8]) {
-    let mut room = [0u8; 65536];
-    let n = output(catalogue, &mut room);
-    program_stream::print_bytes(rt, &room, n, b"uncatalogue: standard output");
-}
-
-// The buffer is one byte longer than a catalogue may be, so that a longer one is refused.
+// The room is large enough for any old form.
 fn main(rt: HostRuntime) {
-    let mut text = [0u8; 65536];
-    let Input::Bytes(n) = program_stream::read_filter(
-        rt,
-        &mut text,
-        b" <catalogue\n",
-        b"uncatalogue: standard input",
-    ) else {
-        return;
-    };
-    print_old_form(rt, &text[..n]);
+    let mut room = [0u8; 65536];
+    program_stream::filter(rt, b" <catalogue\n", b"uncatalogue", &mut room, output);
 }

@@ -1,4 +1,4 @@
--- Whatever it is asked, each public call has an answer, and rooms to go with it, that its promise allows: `CALL-there`. So no
+-- Whatever it is asked, each public call has an answer, and rooms to go with it, that its promise allows: `CALL_there`. So no
 -- promise is empty. That there is one only is shown in the files whose names begin with Unique.
 use mathlib.Core.List.{List, ◌++◌}
 use mathlib.Core.Logic.{inl, inr, ◌⊎◌}
@@ -37,8 +37,8 @@ use Rattle.mend.proofs.TextLines.{lines_exist}
 use Rattle.register.specs.declared.TextFault.TheVariants.{TooLong}
 use Rattle.answer.specs.declared.Refusal.{Refusal}
 use Rattle.answer.specs.declared.Refusal.TheVariants.{Text, Room, Asked, Turns, Sheet}
-use Rattle.answer.specs.declared.Answer.{Answer}
-use Rattle.answer.specs.declared.Answer.TheVariants.{Refused, Given}
+use Rattle.answer.specs.Answer.{Answer}
+use Rattle.std.specs.Prelude.{Ok, Err}
 use Rattle.answer.specs.Answer.{OnInput, Begins, Written, Short, Asks}
 use Rattle.answer.proofs.Inputs.{Apart}
 use Rattle.promises.specs.OnText.{OnText}
@@ -68,12 +68,12 @@ on_there : {Made Rooms : Type 0} {accepts : Made → Type 0} {refuses : Refusal 
     (gives : Made → ℕ → Rooms → Type 0) (rooms : Rooms) → ((m : Made) × accepts m) ⊎ ((r : Refusal) × refuses r)
     → ((m : Made) → accepts m → Outcome (later m) (gives m))
     → (a : Answer) × (after : Rooms) × OnInput accepts refuses later gives rooms a after
-on_there later gives rooms (inr (r, p)) f = (Refused r, rooms, (inl p, refl))
+on_there later gives rooms (inr (r, p)) f = (Err r, rooms, (inl p, refl))
 on_there {Made} {Rooms} {accepts} {refuses} later gives rooms (inl (m, p)) f = at (f m p)
   where
     at : Outcome (later m) (gives m) → (a : Answer) × (after : Rooms) × OnInput accepts refuses later gives rooms a after
-    at (inl (r, q)) = (Refused r, rooms, (inr (m, p, q), refl))
-    at (inr (n, after, g)) = (Given n, after, (m, p, g))
+    at (inl (r, q)) = (Err r, rooms, (inr (m, p, q), refl))
+    at (inr (n, after, g)) = (Ok n, after, (m, p, g))
 
 -- A room that is long enough has place for a list, and for entries that are there.
 written_there : (l room : List ℕ) → length l ≤ length room → (n : ℕ) × (after : List ℕ) × Written l room n after

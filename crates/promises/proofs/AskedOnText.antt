@@ -10,7 +10,7 @@ use Rattle.register.specs.Reads.{Accepts}
 use Rattle.answer.specs.declared.Refusal.{Refusal}
 use Rattle.answer.specs.declared.Refusal.TheVariants.{Asked, Turns, Room}
 use Rattle.answer.specs.Answer.{Asks, Written}
-use Rattle.answer.specs.declared.Answer.{Answer}
+use Rattle.answer.specs.Answer.{Answer}
 use Rattle.answer.proofs.Rooms.{written_unique}
 use Rattle.answer.proofs.Promises.{Exactly, asks_once, asks_none}
 use Rattle.answer.proofs.Inputs.{on_unique, on_asked}

@@ -1,4 +1,4 @@
--- Demands 2 and 3 of each public call, from its promise: what the room then says. `CALL-say` where each entry is a number, and
+-- Demands 2 and 3 of each public call, from its promise: what the room then says. `CALL_say` where each entry is a number, and
 -- `listing_says`, `reason_says`, `sheet_says`, `sheet_update_says` of the bytes that are written.
 use mathlib.Core.Bool.{Bool, true, false}
 use mathlib.Core.List.{List, [], ◌++◌}
@@ -25,7 +25,7 @@ use Rattle.reason.specs.Reasons.{IsReason}
 use Rattle.reason.proofs.KeepRows.{row_if, keep_rows}
 use Rattle.sheet.specs.Sheet.{total}
 use Rattle.answer.specs.Answer.{Written}
-use Rattle.answer.specs.declared.Answer.TheVariants.{Given}
+use Rattle.std.specs.Prelude.{Ok}
 use Rattle.promises.specs.LabelCalls.{StatementsIn, PairsLabels, PairsLengths, MovesLabels, MovesLengths, TextLabels}
 use Rattle.promises.specs.LabelCalls.{TextLengths}
 use Rattle.promises.specs.KindCalls.{PairsKinds}
@@ -45,14 +45,14 @@ statements_say B number Says says statements few room n after (e, b) x h =
     let (a, of, p) = b.each x (omega (arith, e)) in subst (Says x) (sym p) (says x (omega arith) a of)
 
 module _ (marks objectors targets : List ℕ) where
-  pub pairs_labels_say : (room : List ℕ) (n : ℕ) (after : List ℕ) → PairsLabels marks objectors targets room (Given n) after
+  pub pairs_labels_say : (room : List ℕ) (n : ℕ) (after : List ℕ) → PairsLabels marks objectors targets room (Ok n) after
       → LabelsSay (book_of marks objectors targets) (length marks) after
   unfolding book_of
   pairs_labels_say room n after (m, l, g) =
       let B = book_of marks objectors targets in
       statements_say B account_number (LabelSays B) (label_says B) (length marks) (omega arith) room n after g
 
-  pub pairs_lengths_say : (room : List ℕ) (n : ℕ) (after : List ℕ) → PairsLengths marks objectors targets room (Given n) after
+  pub pairs_lengths_say : (room : List ℕ) (n : ℕ) (after : List ℕ) → PairsLengths marks objectors targets room (Ok n) after
       → LengthsSay (book_of marks objectors targets) (length marks) after
   unfolding book_of
   pairs_lengths_say room n after (m, l, g) =
@@ -60,7 +60,7 @@ module _ (marks objectors targets : List ℕ) where
       statements_say B account_length (LengthSays B) (length_says B) (length marks) (omega arith) room n after g
 
   pub pairs_kinds_say : (rooms : List ℕ × List ℕ) (n : ℕ) (after : List ℕ × List ℕ)
-      → PairsKinds marks objectors targets rooms (Given n) after
+      → PairsKinds marks objectors targets rooms (Ok n) after
       → KindsSay (book_of marks objectors targets) (length objectors) objectors targets after.0 after.1
   pairs_kinds_say rooms n after (m, l, (e, b, c)) k h =
       let (a, of, p) = b.each k (omega (arith, e)) in
@@ -71,11 +71,11 @@ module _ (marks objectors targets : List ℕ) where
       subst₂ (KindSays B y x) (sym p) (ap account_length (objection_once B y x a a' of of') ∙ sym q) (kind_says B y x a of)
 
 -- and so of moves
-pub moves_labels_say : (marks from to room : List ℕ) (n : ℕ) (after : List ℕ) → MovesLabels marks from to room (Given n) after
+pub moves_labels_say : (marks from to room : List ℕ) (n : ℕ) (after : List ℕ) → MovesLabels marks from to room (Ok n) after
     → LabelsSay (book_of marks to from) (length marks) after
 moves_labels_say marks from to = pairs_labels_say marks to from
 
-pub moves_lengths_say : (marks from to room : List ℕ) (n : ℕ) (after : List ℕ) → MovesLengths marks from to room (Given n) after
+pub moves_lengths_say : (marks from to room : List ℕ) (n : ℕ) (after : List ℕ) → MovesLengths marks from to room (Ok n) after
     → LengthsSay (book_of marks to from) (length marks) after
 moves_lengths_say marks from to = pairs_lengths_say marks to from
 
@@ -176,7 +176,7 @@ module _ (s : List ℕ) (R : Register) (a : Accepts s R) where
       }
 
 module _ (s : List ℕ) where
-  pub text_labels_say : (room : List ℕ) (n : ℕ) (after : List ℕ) → TextLabels s room (Given n) after
+  pub text_labels_say : (room : List ℕ) (n : ℕ) (after : List ℕ) → TextLabels s room (Ok n) after
       → OfText s (λ R. LabelsSay (book R) (length R.statements) after)
   text_labels_say room n after (R, a, g) = (
     R,
@@ -185,7 +185,7 @@ module _ (s : List ℕ) where
         after g,
   )
 
-  pub text_lengths_say : (room : List ℕ) (n : ℕ) (after : List ℕ) → TextLengths s room (Given n) after
+  pub text_lengths_say : (room : List ℕ) (n : ℕ) (after : List ℕ) → TextLengths s room (Ok n) after
       → OfText s (λ R. LengthsSay (book R) (length R.statements) after)
   text_lengths_say room n after (R, a, g) = (
     R,
@@ -194,12 +194,12 @@ module _ (s : List ℕ) where
         n after g,
   )
 
-  pub listing_says : (room : List ℕ) (n : ℕ) (after : List ℕ) → TextListing s room (Given n) after
+  pub listing_says : (room : List ℕ) (n : ℕ) (after : List ℕ) → TextListing s room (Ok n) after
       → OfText s (λ R. ListingSays R (take n after))
   listing_says room n after (R, a, (l, is, w)) =
       (R, a, subst (ListingSays R) (sym (room_begins l room n after w)) (listing_of_lem s R a l is))
 
-  pub reason_says : (number : ℕ) (room : List ℕ) (n : ℕ) (after : List ℕ) → TextReason s number room (Given n) after
+  pub reason_says : (number : ℕ) (room : List ℕ) (n : ℕ) (after : List ℕ) → TextReason s number room (Ok n) after
       → OfText s (λ R. (x : ℕ) × Places R number x × ReasonSays R x (take n after))
   reason_says number room n after (R, a, (x, q, (l, is, w))) = (
     R,
@@ -212,10 +212,10 @@ module _ (s : List ℕ) where
     ),
   )
 
-  pub sheet_says : (rooms : List ℕ × List ℕ) (n : ℕ) (after : List ℕ × List ℕ) → TextSheet s rooms (Given n) after
+  pub sheet_says : (rooms : List ℕ × List ℕ) (n : ℕ) (after : List ℕ × List ℕ) → TextSheet s rooms (Ok n) after
       → OfText s (λ R. SheetSays R (take n after.0) after.1)
   sheet_says rooms n after (R, a, g) = (R, a, sheet_of s R a rooms n after g)
 
-  pub sheet_update_says : (rooms : List ℕ × List ℕ) (n : ℕ) (after : List ℕ × List ℕ) → TextSheetUpdate s rooms (Given n) after
+  pub sheet_update_says : (rooms : List ℕ × List ℕ) (n : ℕ) (after : List ℕ × List ℕ) → TextSheetUpdate s rooms (Ok n) after
       → OfText s (λ R. SheetSays R (take n after.0) after.1)
   sheet_update_says rooms n after (R, a, (old, g)) = (R, a, sheet_of s R a rooms n after g)

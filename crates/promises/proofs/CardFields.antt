@@ -2,10 +2,9 @@
 -- tab behind it. What is written by which call is left to `IssuedNumbers`.
 use mathlib.Core.List.{List, append_assoc, [], ◌∷◌, ◌++◌}
 use mathlib.Core.Logic.{inl, inr}
-use mathlib.Core.Path.{ap, refl, subst, sym, ◌≡◌, ◌∙◌}
-use Prim.Native.Nat.{ℕ, zero, suc, ◌<◌}
+use mathlib.Core.Path.{refl, subst, sym, ◌≡◌}
+use Prim.Native.Nat.{ℕ, zero, suc}
 use native.Mathlib.Nat.{not-suc-le-zero, le_of_suc-le-suc}
-use lib.ListN.{length, get_or}
 use Rattle.register.specs.Number.{IsNumber, number_bytes}
 use Rattle.register.specs.Lines.{mark_byte}
 use Rattle.catalogue.specs.Cards.{Card, Each, CardFormed, card_bytes, cards_bytes, fields_bytes}

@@ -1,4 +1,4 @@
--- Demand 1 of each public call, from its promise: `CALL-answers`. What is written, by demands 2 and 3, is said in `CallsSay`,
+-- Demand 1 of each public call, from its promise: `CALL_answers`. What is written, by demands 2 and 3, is said in `CallsSay`,
 -- which numbers of statements in `IssuedNumbers`, and the same of the exported functions in `DemandsInC`.
 use mathlib.Core.List.{List}
 use mathlib.Core.Logic.{⊎_elim, inl}
@@ -20,8 +20,8 @@ use Rattle.reason.specs.Reasons.{IsReason}
 use Rattle.reason.proofs.Reasons.{reason_once}
 use Rattle.answer.specs.declared.Refusal.{Refusal}
 use Rattle.answer.specs.Answer.{Promised, RefusedOn, GivenOn, OnInput, Short, Asks, Written}
-use Rattle.answer.specs.declared.Answer.{Answer}
-use Rattle.answer.specs.declared.Answer.TheVariants.{Refused, Given}
+use Rattle.answer.specs.Answer.{Answer}
+use Rattle.std.specs.Prelude.{Ok, Err}
 use Rattle.answer.proofs.Promises.{asks_none}
 use Rattle.answer.proofs.Inputs.{Apart, on_apart}
 use Rattle.promises.specs.OnLists.{ListsRefused, OnLists}
@@ -63,7 +63,7 @@ use Rattle.promises.specs.CatalogueCalls.{TextCatalogue, CatalogueRefused, Catal
 use Rattle.promises.specs.Fine.{TextCatalogueFine, CatalogueTextFine}
 use Rattle.promises.proofs.OnCatalogue.{catalogue_apart}
 use Rattle.promises.proofs.WrittenInput.{WrittenFor, written_for_unique}
-use Rattle.promises.proofs.UniqueNumber.{unique_number_code, unique_number_text}
+use Rattle.promises.proofs.UniqueNumber.{unique_number_code}
 
 -- What a call does with its input, from its promise's being unique: generic over promises of the form that all calls have.
 module _ {Rooms : Type 0} (refuses : Refusal → Type 0) (gives : ℕ → Rooms → Type 0) (first : Refusal → Type 0) (fine : Type 0)
@@ -75,17 +75,17 @@ module _ {Rooms : Type 0} (refuses : Refusal → Type 0) (gives : ℕ → Rooms 
   answers there due amiss well = record {
     there = there;
     gives = λ a after p. (yes a after p, no a after p);
-    refusal = λ a after p r f. unique a (Refused r) after rooms p (due r f, refl);
+    refusal = λ a after p r f. unique a (Err r) after rooms p (due r f, refl);
     untouched = λ r after p. p.1;
   }
     where
-      yes : (a : Answer) (after : Rooms) → Promised refuses gives rooms a after → (n : ℕ) × (a ≡ Given n) → fine
-      yes (Given n) after p e = well n after p
-      yes (Refused r) after p (n, e) = let z : ◌≡◌ {A = ℕ} 0 1 = cc in absurd (omega arith)
+      yes : (a : Answer) (after : Rooms) → Promised refuses gives rooms a after → (n : ℕ) × (a ≡ Ok n) → fine
+      yes (Ok n) after p e = well n after p
+      yes (Err r) after p (n, e) = let z : ◌≡◌ {A = ℕ} 0 1 = cc in absurd (omega arith)
 
-      no : (a : Answer) (after : Rooms) → Promised refuses gives rooms a after → fine → (n : ℕ) × (a ≡ Given n)
-      no (Given n) after p f = (n, refl)
-      no (Refused r) after p f = absurd (amiss r p.0 f)
+      no : (a : Answer) (after : Rooms) → Promised refuses gives rooms a after → fine → (n : ℕ) × (a ≡ Ok n)
+      no (Ok n) after p f = (n, refl)
+      no (Err r) after p f = absurd (amiss r p.0 f)
 
 module _ (marks objectors targets : List ℕ) where
   -- nothing is amiss where the lists are accepted and nothing is refused later

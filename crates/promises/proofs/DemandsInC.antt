@@ -1,5 +1,5 @@
--- The demands of each exported function, through `InC`: `FUNCTION-answers`, what a C caller learns from the two numbers, and
--- `FUNCTION-say`, `-says` and `-issues-none`, what is written where `refusal` is 0. All follow from what is shown of the calls.
+-- The demands of each exported function, through `InC`: `FUNCTION_answers`, what a C caller learns from the two numbers, and
+-- `FUNCTION_say`, `_says` and `_issues_none`, what is written where `refusal` is 0. All follow from what is shown of the calls.
 use mathlib.Core.List.{List, ◌++◌}
 use mathlib.Core.Logic.{◌↔◌}
 use mathlib.Core.Path.{ap, refl, ◌≡◌, ◌∙◌}
@@ -10,8 +10,8 @@ use Rattle.register.specs.Register.{book, Places}
 use Rattle.listing.specs.Rows.{header}
 use Rattle.answer.specs.InC.{InC, in_c}
 use Rattle.answer.specs.declared.Refusal.{Refusal}
-use Rattle.answer.specs.declared.Answer.{Answer}
-use Rattle.answer.specs.declared.Answer.TheVariants.{Refused, Given}
+use Rattle.answer.specs.Answer.{Answer}
+use Rattle.std.specs.Prelude.{Ok, Err}
 use Rattle.answer.specs.declared.CAnswer.{CAnswer}
 use Rattle.answer.proofs.InC.{in_c_given, in_c_refused}
 use Rattle.promises.specs.OnLists.{ListsRefused}
@@ -58,7 +58,7 @@ module _ {Rooms : Type 0} {fine : Type 0} {refuses : Refusal → Type 0} {promis
       λ f. accepted c after p f,
     );
     refusal = λ c after p r q.
-        let e : c ≡ in_c (Refused r) = p.2 ∙ ap in_c (w.refusal p.0 after p.1 r q) in
+        let e : c ≡ in_c (Err r) = p.2 ∙ ap in_c (w.refusal p.0 after p.1 r q) in
         (ap (λ (d : CAnswer). d.refusal) e, ap (λ (d : CAnswer). d.value) e);
     untouched = λ c after p z. let (r, q, e, f) = in_c_refused (λ a. promise a after) c p z in w.untouched r after q;
   }
@@ -70,7 +70,7 @@ module _ {Rooms : Type 0} {fine : Type 0} {refuses : Refusal → Type 0} {promis
 
 -- and what an answer given says is so where `refusal` is 0
 in_c_says : {Rooms : Type 0} (promise : Answer → Rooms → Type 0) (says : ℕ → Rooms → Type 0)
-    → ((n : ℕ) (after : Rooms) → promise (Given n) after → says n after)
+    → ((n : ℕ) (after : Rooms) → promise (Ok n) after → says n after)
     → (c : CAnswer) (after : Rooms) → InC (λ a. promise a after) c → c.refusal ≡ 0 → says c.value after
 in_c_says promise says w c after p z = w c.value after (in_c_given (λ a. promise a after) c p z)
 

@@ -35,7 +35,7 @@ use Rattle.mend.specs.Mended.{mended}
 use Rattle.mend.proofs.TextLines.{lines_once, written_lines}
 use Rattle.mend.proofs.Valid.{mended_valid}
 use Rattle.mend.proofs.IssuedLines.{issued_line, line_issued, mended_line}
-use Rattle.answer.specs.declared.Answer.TheVariants.{Given}
+use Rattle.std.specs.Prelude.{Ok}
 use Rattle.promises.specs.ArgumentCalls.{TextArgument, by_number}
 use Rattle.promises.specs.ListingCalls.{TextListing}
 use Rattle.promises.specs.ReasonCalls.{TextReason}
@@ -172,7 +172,7 @@ module _ (R : Register) (v : Valid R) where
 module _ (s : List ℕ) where
   -- In a listing, behind the header, the numbers with a tab behind them are exactly those that the text issues: the last field
   -- of a row is a length.
-  pub listing_issues_none : (room : List ℕ) (n : ℕ) (after : List ℕ) → TextListing s room (Given n) after
+  pub listing_issues_none : (room : List ℕ) (n : ℕ) (after : List ℕ) → TextListing s room (Ok n) after
       → OfText s (λ R. (rows : List ℕ) × (take n after ≡ header (length R.statements) (length R.objections) ++ rows)
       × ((m : ℕ) → Field rows m 9 ↔ IssuedIn s m))
   listing_issues_none room n after p =
@@ -200,7 +200,7 @@ module _ (s : List ℕ) where
           (row_names R v x g (w.statements x) (w.statement_says x g)) (rows_to (length R.objections) w.objections))
 
   -- So in a reason, which has the asked number.
-  pub reason_issues_none : (number : ℕ) (room : List ℕ) (n : ℕ) (after : List ℕ) → TextReason s number room (Given n) after
+  pub reason_issues_none : (number : ℕ) (room : List ℕ) (n : ℕ) (after : List ℕ) → TextReason s number room (Ok n) after
       → Field (take n after) number 9 × ((m : ℕ) → Field (take n after) m 9 → IssuedIn s m)
   reason_issues_none number room n after p =
       let (R, a, (x, (h, e), w)) = reason_says s number room n after p in
@@ -212,7 +212,7 @@ module _ (s : List ℕ) where
       )
 
   -- Each entry of a line of argument is such a number.
-  pub line_issues_none : (number : ℕ) (room : List ℕ) (n : ℕ) (after : List ℕ) → TextArgument s number room (Given n) after
+  pub line_issues_none : (number : ℕ) (room : List ℕ) (n : ℕ) (after : List ℕ) → TextArgument s number room (Ok n) after
       → (k : ℕ) → k < n → IssuedIn s (get_or after k 0)
   unfolding book_of
   line_issues_none number room n after (R, a, (x, q, (l, is, (c, f, e)))) k h =
@@ -229,7 +229,7 @@ module _ (s : List ℕ) where
       (issued_exactly s R a (get_or after k 0)).0 (get_or l k 0, i, sym g)
 
   -- In a mended text every number is one that the given text issues.
-  pub mend_issues_none : (lent : Lent) (n : ℕ) (after : Lent) → TextMend s lent (Given n) after
+  pub mend_issues_none : (lent : Lent) (n : ℕ) (after : Lent) → TextMend s lent (Ok n) after
       → (m end : ℕ) → EndsField end → Field (take n after.0) m end → IssuedIn s m
   mend_issues_none lent n after (ls, (h, p), (w, v)) m end e f =
       let R = mended ls in
@@ -262,7 +262,7 @@ card_numbers R v = go R.statements (each_of (λ (st : StatementLine). st.number)
     go (st ∷ S) (p, e) = ((p, own st.number), go S e)
 
 -- In a catalogue every number is one that the text issues.
-pub catalogue_issues_none : (s room : List ℕ) (n : ℕ) (after : List ℕ) → TextCatalogue s room (Given n) after
+pub catalogue_issues_none : (s room : List ℕ) (n : ℕ) (after : List ℕ) → TextCatalogue s room (Ok n) after
     → (m end : ℕ) → EndsField end → Field (take n after) m end → IssuedIn s m
 catalogue_issues_none s room n after (R, a, w) m end e f =
     (issued_exactly s R a m).0 (only_of (Issued R) EndsField (λ e h. h) (catalogued R)
@@ -270,7 +270,7 @@ catalogue_issues_none s room n after (R, a, w) m end e f =
     (subst (λ u. Field u m end) (room_begins (catalogued R) room n after w) f))
 
 -- In an old form every number stands in the catalogue, with a tab behind.
-pub uncatalogue_issues_none : (catalogue room : List ℕ) (n : ℕ) (after : List ℕ) → CatalogueText catalogue room (Given n) after
+pub uncatalogue_issues_none : (catalogue room : List ℕ) (n : ℕ) (after : List ℕ) → CatalogueText catalogue room (Ok n) after
     → (m end : ℕ) → EndsField end → Field (take n after) m end → Field catalogue m 9
 uncatalogue_issues_none catalogue room n after (R, a, w) m end e f =
     let v = a.catalogue.valid in

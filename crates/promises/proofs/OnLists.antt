@@ -1,7 +1,7 @@
 -- Accepting and refusing handed lists are apart: they have one fault at most, and none where they are accepted. So the laws of
 -- promises on an input hold of every promise on lists.
 use mathlib.Core.List.{List}
-use mathlib.Core.Logic.{⊎_elim, inr, inl, ◌↔◌}
+use mathlib.Core.Logic.{⊎_elim, inr, inl}
 use mathlib.Core.Path.{ap, subst, sym, refl, ◌≡◌, ◌∙◌}
 use Prim.Native.Nat.{ℕ, ◌≤◌, ◌<◌}
 use native.Mathlib.Omega.{arith}

@@ -11,7 +11,7 @@ use Rattle.game.specs.Book.{Book, Listed, book_of}
 use Rattle.register.specs.Register.{Register, book}
 use Rattle.register.specs.Reads.{Accepts}
 use Rattle.register.proofs.Order.{marks_counted}
-use Rattle.answer.specs.declared.Answer.TheVariants.{Given}
+use Rattle.std.specs.Prelude.{Ok}
 use Rattle.sheet.specs.Sheet.{code_at, IsSheet, codes, total}
 use Rattle.sheet.proofs.Codes.{byte_by_codes}
 use Rattle.sheet.proofs.Sheets.{sheet_sound, sheet_once}
@@ -71,12 +71,12 @@ sheet_small s R l t is = omega (arith, is.size, marks_counted R t.valid, t.valid
 
 -- The register of the text is one, so what a call promises of some register it promises of this one.
 module _ (s : List ℕ) (R : Register) (t : Accepts s R) (old : List ℕ × List ℕ) (n : ℕ) (after : List ℕ × List ℕ)
-    (p : TextSheetUpdate s old (Given n) after) where
+    (p : TextSheetUpdate s old (Ok n) after) where
   updates : UpdatedIn (book R) old n after
   updates = subst (λ T. UpdatedIn (book T) old n after) (text.accepts_once s p.0 R p.1 t) p.2
 
   -- an updated sheet equals a fresh one, and so do its totals
-  pub updated_fresh : (rooms : List ℕ × List ℕ) (m : ℕ) (fresh : List ℕ × List ℕ) → TextSheet s rooms (Given m) fresh
+  pub updated_fresh : (rooms : List ℕ × List ℕ) (m : ℕ) (fresh : List ℕ × List ℕ) → TextSheet s rooms (Ok m) fresh
       → (n ≡ m) × (after.0 ≡ take m fresh.0) × ((c : ℕ) → c < codes → get_or after.1 c 0 ≡ get_or fresh.1 c 0)
   updated_fresh rooms m fresh q =
       let g = subst (λ T. SheetIn (book T) rooms m fresh) (text.accepts_once s q.0 R q.1 t) q.2 in

@@ -1,4 +1,4 @@
--- Every promise about one statement of lists leaves one answer and one content of the room: `unique-CALL` for each call; and 14,
+-- Every promise about one statement of lists leaves one answer and one content of the room: `unique_CALL` for each call; and 14,
 -- 15 and 10 are given exactly when 01 says.
 use mathlib.Core.List.{List}
 use mathlib.Core.Logic.{◌↔◌}
@@ -13,7 +13,7 @@ use Rattle.lists.specs.Refuses.{Lists}
 use Rattle.answer.specs.declared.Refusal.{Refusal}
 use Rattle.answer.specs.declared.Refusal.TheVariants.{Asked, Turns, Room}
 use Rattle.answer.specs.Answer.{Asks}
-use Rattle.answer.specs.declared.Answer.{Answer}
+use Rattle.answer.specs.Answer.{Answer}
 use Rattle.answer.proofs.Rooms.{written_unique}
 use Rattle.answer.proofs.Promises.{asks_none, asks_once, Exactly, through}
 use Rattle.answer.proofs.Inputs.{on_unique, on_asked}

@@ -1,5 +1,5 @@
--- Every promise of what is asked of one number leaves one answer and one content of the rooms: `unique-CALL` for each call. And
--- its refusals are given exactly when they are due: `exactly-CALL`.
+-- Every promise of what is asked of one number leaves one answer and one content of the rooms: `unique_CALL` for each call. And
+-- its refusals are given exactly when they are due: `exactly_CALL`.
 use mathlib.Core.List.{List}
 use mathlib.Core.Path.{subst, refl, ◌≡◌}
 use Prim.Native.Nat.{ℕ, ◌≤◌, ◌<◌}
@@ -11,7 +11,7 @@ use Rattle.game.proofs.Exercise.{answered_once}
 use Rattle.register.specs.Register.{Register, book, Issued}
 use Rattle.answer.specs.declared.Refusal.{Refusal}
 use Rattle.answer.specs.Answer.{Asks}
-use Rattle.answer.specs.declared.Answer.{Answer}
+use Rattle.answer.specs.Answer.{Answer}
 use Rattle.answer.proofs.Promises.{asks_none, asks_once, Exactly}
 use Rattle.answer.proofs.Inputs.{on_unique}
 use Rattle.register.proofs.Order.{place_once}

@@ -2,7 +2,7 @@
 -- due, and a refusal of the input exactly when the input has that fault.
 use mathlib.Core.List.{List}
 use mathlib.Core.Logic.{◌↔◌, ⊎_elim, inl}
-use mathlib.Core.Path.{ap, refl, sym, subst, ◌≡◌, ◌∙◌}
+use mathlib.Core.Path.{refl, sym, subst, ◌≡◌}
 use Prim.Native.Nat.{ℕ, ◌<◌}
 use lib.ListN.{length}
 use Rattle.register.specs.Register.{Register, written}
@@ -10,10 +10,9 @@ use Rattle.register.specs.Reads.{Accepts, Refuses}
 use Rattle.register.specs.declared.TextFault.{TextFault}
 use Rattle.catalogue.specs.Regrouped.{catalogued}
 use Rattle.catalogue.specs.CatalogueReads.{CatalogueAccepts, CatalogueRefuses}
-use Rattle.answer.specs.declared.Refusal.{Refusal}
 use Rattle.answer.specs.declared.Refusal.TheVariants.{Text, Room}
-use Rattle.answer.specs.declared.Answer.{Answer}
-use Rattle.answer.specs.declared.Answer.TheVariants.{Refused}
+use Rattle.answer.specs.Answer.{Answer}
+use Rattle.std.specs.Prelude.{Err}
 use Rattle.answer.specs.Answer.{Short, RefusedOn}
 use Rattle.answer.proofs.Inputs.{Later}
 use Rattle.answer.proofs.Promises.{through}
@@ -44,8 +43,8 @@ module _ (s : List ℕ) (room : List ℕ) where
 
   -- a text has the refusals of 01; then 10, exactly if the room is shorter than the catalogue
   pub exactly_text_catalogue : (a : Answer) (after : List ℕ) → TextCatalogue s room a after
-      → ((fault : TextFault) → (a ≡ Refused (Text fault)) ↔ Refuses s fault)
-      × ((a ≡ Refused Room) ↔ ((R : Register) × Accepts s R × (length room < length (catalogued R))))
+      → ((fault : TextFault) → (a ≡ Err (Text fault)) ↔ Refuses s fault)
+      × ((a ≡ Err Room) ↔ ((R : Register) × Accepts s R × (length room < length (catalogued R))))
   exactly_text_catalogue a after p = (
     λ fault. through (written_for_refused (text_apart s) catalogued room a after p (Text fault))
         (fault_exactly (λ R. length room < length (catalogued R)) fault),
@@ -58,8 +57,8 @@ module _ (catalogue : List ℕ) (room : List ℕ) where
   unique_catalogue_text = written_for_unique (catalogue_apart catalogue) written room
 
   pub exactly_catalogue_text : (a : Answer) (after : List ℕ) → CatalogueText catalogue room a after
-      → ((fault : TextFault) → (a ≡ Refused (Text fault)) ↔ CatalogueRefuses catalogue fault)
-      × ((a ≡ Refused Room) ↔ ((R : Register) × CatalogueAccepts catalogue R × (length room < length (written R))))
+      → ((fault : TextFault) → (a ≡ Err (Text fault)) ↔ CatalogueRefuses catalogue fault)
+      × ((a ≡ Err Room) ↔ ((R : Register) × CatalogueAccepts catalogue R × (length room < length (written R))))
   exactly_catalogue_text a after p = (
     λ fault. through (written_for_refused (catalogue_apart catalogue) written room a after p (Text fault))
         (fault_exactly (λ R. length room < length (written R)) fault),

@@ -1,8 +1,8 @@
--- What is unique for Rattle is unique for C: `unique-FUNCTION` for each exported function.
+-- What is unique for Rattle is unique for C: `unique_FUNCTION` for each exported function.
 use mathlib.Core.List.{List}
 use mathlib.Core.Path.{ap, sym, ◌≡◌, ◌∙◌}
 use Prim.Native.Nat.{ℕ}
-use Rattle.answer.specs.declared.Answer.{Answer}
+use Rattle.answer.specs.Answer.{Answer}
 use Rattle.promises.specs.LabelCalls.{PairsLabels, PairsLengths, MovesLabels, MovesLengths, TextLabels, TextLengths}
 use Rattle.promises.specs.KindCalls.{PairsKinds}
 use Rattle.promises.specs.ArgumentCalls.{PairsArgument, TextArgument}

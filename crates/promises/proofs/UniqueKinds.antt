@@ -9,7 +9,7 @@ use Rattle.game.specs.Book.{book_of}
 use Rattle.game.specs.Account.{Account, OfObjection}
 use Rattle.game.proofs.Account.{objection_once, number_once}
 use Rattle.answer.specs.Answer.{Short}
-use Rattle.answer.specs.declared.Answer.{Answer}
+use Rattle.answer.specs.Answer.{Answer}
 use Rattle.answer.proofs.Rooms.{begins_unique}
 use Rattle.answer.proofs.Promises.{short_once}
 use Rattle.answer.proofs.Inputs.{on_unique}

@@ -1,4 +1,4 @@
--- Every promise of labels and lengths, on lists and on a text, leaves one answer and one content of the room: `unique-CALL` for
+-- Every promise of labels and lengths, on lists and on a text, leaves one answer and one content of the room: `unique_CALL` for
 -- each call.
 use mathlib.Core.List.{List}
 use mathlib.Core.Path.{sym, ◌≡◌, ◌∙◌}
@@ -11,7 +11,7 @@ use Rattle.game.proofs.Account.{statement_once, number_once}
 use Rattle.register.specs.Register.{book}
 use Rattle.answer.specs.declared.Refusal.{Refusal}
 use Rattle.answer.specs.Answer.{Short}
-use Rattle.answer.specs.declared.Answer.{Answer}
+use Rattle.answer.specs.Answer.{Answer}
 use Rattle.answer.proofs.Rooms.{begins_unique}
 use Rattle.answer.proofs.Promises.{short_once}
 use Rattle.answer.proofs.Inputs.{on_unique}

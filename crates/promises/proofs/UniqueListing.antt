@@ -7,7 +7,7 @@ use lib.ListN.{length}
 use Rattle.register.specs.Register.{Register}
 use Rattle.listing.proofs.Listing.{listing_once}
 use Rattle.answer.specs.Answer.{Short}
-use Rattle.answer.specs.declared.Answer.{Answer}
+use Rattle.answer.specs.Answer.{Answer}
 use Rattle.answer.proofs.Rooms.{written_unique}
 use Rattle.answer.proofs.Promises.{short_once}
 use Rattle.answer.proofs.Inputs.{on_unique}

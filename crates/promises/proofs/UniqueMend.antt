@@ -2,7 +2,7 @@
 -- are due, and nothing else: `exactly_text_mend`. A text is accepted as its lines, which are one.
 use mathlib.Core.List.{List}
 use mathlib.Core.Logic.{inl, inr, ◌⊎◌, ◌↔◌}
-use mathlib.Core.Path.{sym, subst, ap, refl, ◌≡◌, ◌∙◌}
+use mathlib.Core.Path.{sym, subst, refl, ◌≡◌, ◌∙◌}
 use Prim.Native.Nat.{ℕ, ◌<◌}
 use native.Mathlib.Omega.{arith}
 use lib.ListN.{length}
@@ -10,8 +10,8 @@ use Rattle.register.specs.Register.{written}
 use Rattle.register.specs.declared.TextFault.TheVariants.{TooLong}
 use Rattle.answer.specs.declared.Refusal.{Refusal}
 use Rattle.answer.specs.declared.Refusal.TheVariants.{Text, Room}
-use Rattle.answer.specs.declared.Answer.{Answer}
-use Rattle.answer.specs.declared.Answer.TheVariants.{Refused}
+use Rattle.answer.specs.Answer.{Answer}
+use Rattle.std.specs.Prelude.{Err}
 use Rattle.answer.specs.Answer.{Short, RefusedOn}
 use Rattle.answer.proofs.Promises.{short_once}
 use Rattle.answer.proofs.Inputs.{Apart, Later, on_unique, on_exactly, on_refused}
@@ -52,9 +52,9 @@ module _ (s : List ℕ) (lent : Lent) where
       (λ ls. MendedIn ls lent) fits gives_once lent
 
   pub record ExactlyMend (a : Answer) : Type 0 where
-    pub one : (a ≡ Refused (Text TooLong)) ↔ (65535 < length s)
-    pub ten : (a ≡ Refused Room) ↔ ((ls : List TextLine) × Lined s ls × MendedShort ls lent)
-    pub no_other : (r : Refusal) → a ≡ Refused r → (r ≡ Text TooLong) ⊎ (r ≡ Room)
+    pub one : (a ≡ Err (Text TooLong)) ↔ (65535 < length s)
+    pub ten : (a ≡ Err Room) ↔ ((ls : List TextLine) × Lined s ls × MendedShort ls lent)
+    pub no_other : (r : Refusal) → a ≡ Err r → (r ≡ Text TooLong) ⊎ (r ≡ Room)
 
   pub exactly_text_mend : (a : Answer) (after : Lent) → TextMend s lent a after → ExactlyMend a
   exactly_text_mend a after p = record {
@@ -69,7 +69,7 @@ module _ (s : List ℕ) (lent : Lent) where
       later : List TextLine → Refusal → Type 0
       later ls = Short (MendedShort ls lent)
 
-      due : (r : Refusal) → (a ≡ Refused r) ↔ RefusedOn (Lined s) (LinesRefused s) later r
+      due : (r : Refusal) → (a ≡ Err r) ↔ RefusedOn (Lined s) (LinesRefused s) later r
       due =
           on_refused (lines_apart s) later (λ ls. short_once (MendedShort ls lent)) (λ ls. MendedIn ls lent) fits lent a after p
 

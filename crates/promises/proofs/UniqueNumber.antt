@@ -13,8 +13,8 @@ use Rattle.register.proofs.Number.{number_short}
 use Rattle.answer.specs.declared.Refusal.{Refusal}
 use Rattle.answer.specs.declared.Refusal.TheVariants.{Text, Room}
 use Rattle.answer.specs.Answer.{Short, Written}
-use Rattle.answer.specs.declared.Answer.{Answer}
-use Rattle.answer.specs.declared.Answer.TheVariants.{Refused, Given}
+use Rattle.answer.specs.Answer.{Answer}
+use Rattle.std.specs.Prelude.{Ok, Err}
 use Rattle.answer.proofs.Promises.{through}
 use Rattle.answer.proofs.Inputs.{on_unique, on_refused}
 use Rattle.promises.specs.NumberCalls.{Names, NumberCode, NumberText}
@@ -34,7 +34,7 @@ module _ (written : List ℕ) where
 
   -- 3, with the place 0, exactly if it is no number
   pub exactly_number_code : (a : Answer) → NumberCode written a
-      → (a ≡ Refused (Text (Spoiled 0))) ↔ ((number : ℕ) → ¬ Names written number)
+      → (a ≡ Err (Text (Spoiled 0))) ↔ ((number : ℕ) → ¬ Names written number)
   exactly_number_code a p =
       through (on_refused (written_apart written) (λ number r. ⊥) (λ number r r' p q. absurd p)
       code_is (λ number t r n after p g. p) tt a tt p (Text (Spoiled 0)))
@@ -51,8 +51,8 @@ module _ (number : ℕ) (room : List ℕ) where
 
   -- 3, with the place 0, exactly if the code is nobody's; then 10, exactly if the room is shorter
   pub exactly_number_text : (a : Answer) (after : List ℕ) → NumberText number room a after
-      → ((a ≡ Refused (Text (Spoiled 0))) ↔ (¬ IsNumber number))
-      × ((a ≡ Refused Room) ↔ (IsNumber number × (length room < length (number_bytes number))))
+      → ((a ≡ Err (Text (Spoiled 0))) ↔ (¬ IsNumber number))
+      × ((a ≡ Err Room) ↔ (IsNumber number × (length room < length (number_bytes number))))
   exactly_number_text a after p = (
     through (written_for_refused (code_apart number) (λ l. l) room a after p (Text (Spoiled 0)))
         (⊎_elim (λ q. q.0) (λ q. absurd (other q.2.1)), λ none. inl (none, refl)),
@@ -64,22 +64,22 @@ module _ (number : ℕ) (room : List ℕ) where
       other e = let z : ◌≡◌ {A = ℕ} 0 1 = cc in omega arith
 
   -- no number has more than 9 bytes
-  pub number_text_short : (n : ℕ) (after : List ℕ) → NumberText number room (Given n) after → n ≤ 9
+  pub number_text_short : (n : ℕ) (after : List ℕ) → NumberText number room (Ok n) after → n ≤ 9
   number_text_short n after (l, (h, e), (c, f, w)) = omega (arith, c, ap length e, number_short number h)
 
 -- Each undoes the other: the bytes of a code that was read are those that were read, and the code of bytes that were written is
 -- the one that was asked for.
-pub text_undoes_code : (written : List ℕ) (number : ℕ) → NumberCode written (Given number) → (room : List ℕ)
+pub text_undoes_code : (written : List ℕ) (number : ℕ) → NumberCode written (Ok number) → (room : List ℕ)
     → length written ≤ length room → (a : Answer) (after : List ℕ) → NumberText number room a after
-    → (a ≡ Given (length written)) × (take (length written) after ≡ written)
+    → (a ≡ Ok (length written)) × (take (length written) after ≡ written)
 text_undoes_code written number (m, p, e) room h a after q =
-    let (c, f) = unique_number_text number room a (Given (length written)) after (written ++ drop (length written) room) q
+    let (c, f) = unique_number_text number room a (Ok (length written)) after (written ++ drop (length written) room) q
     (written, subst (Names written) (sym e) p, (refl, h, refl)) in
     (c, ap (take (length written)) f ∙ take-append_seam written (drop (length written) room))
 
-pub code_undoes_text : (number : ℕ) (room : List ℕ) (n : ℕ) (after : List ℕ) → NumberText number room (Given n) after
-    → (a : Answer) → NumberCode (take n after) a → a ≡ Given number
+pub code_undoes_text : (number : ℕ) (room : List ℕ) (n : ℕ) (after : List ℕ) → NumberText number room (Ok n) after
+    → (a : Answer) → NumberCode (take n after) a → a ≡ Ok number
 code_undoes_text number room n after (l, p, (c, h, w)) a q =
     let e : take n after ≡ l = ap (take n) w ∙ ap (λ k. take k (l ++ drop (length l) room)) c
     ∙ take-append_seam l (drop (length l) room) in
-    unique_number_code (take n after) a (Given number) q (number, subst (λ u. Names u number) (sym e) p, refl)
+    unique_number_code (take n after) a (Ok number) q (number, subst (λ u. Names u number) (sym e) p, refl)

@@ -4,7 +4,7 @@ use mathlib.Core.Path.{refl, ◌≡◌}
 use Prim.Native.Nat.{ℕ, ◌≤◌, ◌<◌}
 use Rattle.register.specs.Register.{Register, Issued}
 use Rattle.register.specs.Reads.{Accepts}
-use Rattle.answer.specs.declared.Answer.{Answer}
+use Rattle.answer.specs.Answer.{Answer}
 use Rattle.answer.proofs.Promises.{Exactly}
 use Rattle.promises.proofs.AskedOnText.{list_unique, asked_exactly, list_apart}
 use Rattle.reason.specs.Reasons.{IsReason}

@@ -1,5 +1,5 @@
--- Both promises leave one answer and one content of the rooms: `unique-CALL` for each call. And what is refused of a sheet is
--- refused exactly when it is due: `exactly-CALL`.
+-- Both promises leave one answer and one content of the rooms: `unique_CALL` for each call. And what is refused of a sheet is
+-- refused exactly when it is due: `exactly_CALL`.
 use mathlib.Core.List.{List}
 use mathlib.Core.Logic.{inl, inr, ◌↔◌}
 use mathlib.Core.Path.{ap₂, sym, subst, refl, ◌≡◌, ◌∙◌}
@@ -13,9 +13,9 @@ use Rattle.promises.specs.OnText.{TextRefused}
 use Rattle.answer.specs.declared.Refusal.{Refusal}
 use Rattle.answer.specs.declared.Refusal.TheVariants.{Room, Sheet}
 use Rattle.answer.specs.Answer.{Begins, Short}
-use Rattle.answer.specs.declared.Answer.{Answer}
+use Rattle.answer.specs.Answer.{Answer}
 use Rattle.answer.proofs.Rooms.{written_unique, begins_unique}
-use Rattle.answer.specs.declared.Answer.TheVariants.{Refused}
+use Rattle.std.specs.Prelude.{Err}
 use Rattle.answer.proofs.Promises.{short_once, number_clash}
 use Rattle.answer.proofs.Inputs.{on_unique, on_exactly}
 use Rattle.sheet.specs.Sheet.{total, codes}
@@ -68,7 +68,7 @@ module _ (s : List ℕ) (rooms : List ℕ × List ℕ) where
 
   -- 10 of a fresh sheet, given exactly when either room is short
   pub exactly_text_sheet : (a : Answer) (after : List ℕ × List ℕ) → TextSheet s rooms a after
-      → (a ≡ Refused Room) ↔ ((R : Register) × Accepts s R × SheetShort (book R) rooms)
+      → (a ≡ Err Room) ↔ ((R : Register) × Accepts s R × SheetShort (book R) rooms)
   exactly_text_sheet a after p =
       on_exactly (text_apart s) (λ R. Short (SheetShort (book R) rooms)) (λ R. short_once (SheetShort (book R) rooms))
       (λ R. SheetIn (book R) rooms) (λ R t r n after p g. sheet_fits (book R) rooms n after g p.0)
@@ -76,8 +76,8 @@ module _ (s : List ℕ) (rooms : List ℕ × List ℕ) where
 
   -- 16 of an update, given exactly when the old sheet is not sound, and then 10
   pub record ExactlyUpdate (a : Answer) : Type 0 where
-    pub sixteen : (a ≡ Refused Sheet) ↔ ((R : Register) × Accepts s R × (¬ OldSheet (book R) rooms))
-    pub ten : (a ≡ Refused Room) ↔ ((R : Register) × Accepts s R × (OldSheet (book R) rooms × (length rooms.1 < codes)))
+    pub sixteen : (a ≡ Err Sheet) ↔ ((R : Register) × Accepts s R × (¬ OldSheet (book R) rooms))
+    pub ten : (a ≡ Err Room) ↔ ((R : Register) × Accepts s R × (OldSheet (book R) rooms × (length rooms.1 < codes)))
 
   pub exactly_text_sheet_update : (a : Answer) (after : List ℕ × List ℕ) → TextSheetUpdate s rooms a after → ExactlyUpdate a
   exactly_text_sheet_update a after p = record {
@@ -91,7 +91,7 @@ module _ (s : List ℕ) (rooms : List ℕ × List ℕ) where
     where
       due : (r : Refusal) → ¬ TextRefused s r → (due : Register → Type 0)
           → ((R : Register) → UpdateRefused (book R) rooms r ↔ due R)
-          → (a ≡ Refused r) ↔ ((R : Register) × Accepts s R × due R)
+          → (a ≡ Err r) ↔ ((R : Register) × Accepts s R × due R)
       due =
           on_exactly (text_apart s) (λ R. UpdateRefused (book R) rooms) (λ R. update_refused_once (book R) rooms)
           (λ R. UpdatedIn (book R) rooms) (λ R t r n after p g. updated_fits (book R) rooms n after g r p) rooms a

@@ -8,8 +8,8 @@ use native.Mathlib.Omega.{arith}
 use lib.ListN.{length}
 use Rattle.answer.specs.declared.Refusal.{Refusal}
 use Rattle.answer.specs.declared.Refusal.TheVariants.{Room}
-use Rattle.answer.specs.declared.Answer.{Answer}
-use Rattle.answer.specs.declared.Answer.TheVariants.{Refused}
+use Rattle.answer.specs.Answer.{Answer}
+use Rattle.std.specs.Prelude.{Err}
 use Rattle.answer.specs.Answer.{OnInput, RefusedOn, Short, Written}
 use Rattle.answer.proofs.Rooms.{written_unique}
 use Rattle.answer.proofs.Promises.{short_once}
@@ -32,13 +32,13 @@ module _ {Made : Type 0} {accepts : Made → Type 0} {refuses : Refusal → Type
       (λ m t n n' after after'. written_unique (told m) (told m) room n n' after after' refl) room
 
   pub written_for_refused : (a : Answer) (after : List ℕ) → WrittenFor a after → (r : Refusal)
-      → (a ≡ Refused r) ↔ RefusedOn accepts refuses (λ m. Short (length room < length (told m))) r
+      → (a ≡ Err r) ↔ RefusedOn accepts refuses (λ m. Short (length room < length (told m))) r
   written_for_refused =
       on_refused apart (λ m. Short (length room < length (told m))) (λ m. short_once (length room < length (told m)))
       (λ m. Written (told m) room) fits room
 
   pub written_for_short : ¬ refuses Room → (a : Answer) (after : List ℕ) → WrittenFor a after
-      → (a ≡ Refused Room) ↔ ((m : Made) × accepts m × (length room < length (told m)))
+      → (a ≡ Err Room) ↔ ((m : Made) × accepts m × (length room < length (told m)))
   written_for_short none a after p =
       on_exactly apart (λ m. Short (length room < length (told m))) (λ m. short_once (length room < length (told m)))
       (λ m. Written (told m) room) fits room a after p Room none (λ m. length room < length (told m))

@@ -4,7 +4,7 @@ use Rattle.std.specs.Prelude.{List, map, ℕ, ◌<◌, length, get_or}
 use Rattle.game.specs.Book.{book_of}
 use Rattle.game.specs.Argument.{Argument}
 use Rattle.answer.specs.Answer.{Written, Asks}
-use Rattle.answer.specs.declared.Answer.{Answer}
+use Rattle.answer.specs.Answer.{Answer}
 use Rattle.promises.specs.OnLists.{OnLists}
 use Rattle.register.specs.Register.{Register, numbers, Places, book, Issued}
 use Rattle.answer.specs.declared.Refusal.{Refusal}

@@ -7,7 +7,7 @@ use Rattle.catalogue.specs.Regrouped.{catalogued}
 use Rattle.catalogue.specs.CatalogueReads.{CatalogueAccepts, CatalogueRefuses}
 use Rattle.answer.specs.declared.Refusal.{Refusal}
 use Rattle.answer.specs.declared.Refusal.TheVariants.{Text}
-use Rattle.answer.specs.declared.Answer.{Answer}
+use Rattle.answer.specs.Answer.{Answer}
 use Rattle.answer.specs.Answer.{OnInput, Short, Written}
 use Rattle.promises.specs.OnText.{OnText}
 

@@ -9,8 +9,8 @@ use Rattle.game.specs.Finish.{Finish}
 use Rattle.register.specs.Register.{Register}
 use Rattle.register.specs.Reads.{Accepts}
 use Rattle.answer.specs.declared.Refusal.{Refusal}
-use Rattle.answer.specs.declared.Answer.{Answer}
-use Rattle.answer.specs.declared.Answer.TheVariants.{Given, Refused}
+use Rattle.answer.specs.Answer.{Answer}
+use Rattle.std.specs.Prelude.{Ok, Err}
 use Rattle.answer.specs.declared.CAnswer.{CAnswer}
 use Rattle.answer.specs.Refusals.{refusal_number, refusal_place}
 use Rattle.answer.specs.InC.{InC}
@@ -30,9 +30,9 @@ pub record Settled {Made : Type 0} (accepts : Made → Type 0) (refuses : Refusa
 pub record Answers {Rooms : Type 0} (fine : Type 0) (refuses : Refusal → Type 0) (promise : Answer → Rooms → Type 0)
     (rooms : Rooms) : Type 0 where
   pub there : (a : Answer) × (after : Rooms) × promise a after
-  pub gives : (a : Answer) (after : Rooms) → promise a after → ((n : ℕ) × (a ≡ Given n)) ↔ fine
-  pub refusal : (a : Answer) (after : Rooms) → promise a after → (r : Refusal) → refuses r → a ≡ Refused r
-  pub untouched : (r : Refusal) (after : Rooms) → promise (Refused r) after → after ≡ rooms
+  pub gives : (a : Answer) (after : Rooms) → promise a after → ((n : ℕ) × (a ≡ Ok n)) ↔ fine
+  pub refusal : (a : Answer) (after : Rooms) → promise a after → (r : Refusal) → refuses r → a ≡ Err r
+  pub untouched : (r : Refusal) (after : Rooms) → promise (Err r) after → after ≡ rooms
 
 -- The same as C sees it, of the exported function for that call: `refusal` is 0 exactly if nothing is amiss; of a refused input
 -- it is 01's number, with the place as `value`; and where it is not 0, the rooms are as found.

@@ -4,7 +4,7 @@ use Rattle.std.specs.Prelude.{List, ℕ, ◌≤◌, ◌<◌, length}
 use Rattle.game.specs.Book.{book_of}
 use Rattle.game.specs.Exercise.{Answered}
 use Rattle.answer.specs.Answer.{Asks}
-use Rattle.answer.specs.declared.Answer.{Answer}
+use Rattle.answer.specs.Answer.{Answer}
 use Rattle.promises.specs.OnLists.{OnLists}
 use Rattle.register.specs.Register.{Register, Places, book, Issued}
 use Rattle.promises.specs.OnText.{OnText}

@@ -3,7 +3,7 @@ use Rattle.std.specs.Prelude.{List, ◌⊎◌, ◌≡◌, ℕ, ◌<◌, length, 
 use Rattle.game.specs.Book.{book_of}
 use Rattle.game.specs.Account.{Account, OfObjection, account_number, account_length}
 use Rattle.answer.specs.Answer.{Begins, Short}
-use Rattle.answer.specs.declared.Answer.{Answer}
+use Rattle.answer.specs.Answer.{Answer}
 use Rattle.promises.specs.OnLists.{OnLists}
 
 -- either room is shorter than the answer

@@ -4,7 +4,7 @@ use Rattle.std.specs.Prelude.{List, ◌≡◌, ℕ, ◌<◌, length}
 use Rattle.game.specs.Book.{Book, book_of}
 use Rattle.game.specs.Account.{Account, OfStatement, account_number, account_length}
 use Rattle.answer.specs.Answer.{Short, Begins}
-use Rattle.answer.specs.declared.Answer.{Answer}
+use Rattle.answer.specs.Answer.{Answer}
 use Rattle.register.specs.Register.{book}
 use Rattle.promises.specs.OnText.{OnText}
 use Rattle.promises.specs.OnLists.{OnLists}

@@ -4,7 +4,7 @@ use Rattle.register.specs.Register.{Register}
 use Rattle.promises.specs.OnText.{OnText}
 use Rattle.listing.specs.Listing.{IsListing}
 use Rattle.answer.specs.Answer.{Written, Short}
-use Rattle.answer.specs.declared.Answer.{Answer}
+use Rattle.answer.specs.Answer.{Answer}
 
 -- the room holds the register's listing, n bytes; the room is shorter than that
 abbrev pub ListingIn : Register → List ℕ → ℕ → List ℕ → Type 0

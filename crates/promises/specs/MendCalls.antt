@@ -6,7 +6,7 @@ use Rattle.answer.specs.declared.Refusal.{Refusal}
 use Rattle.answer.specs.declared.Refusal.TheVariants.{Text}
 use Rattle.register.specs.declared.TextFault.TheVariants.{TooLong}
 use Rattle.answer.specs.Answer.{Written, Short, OnInput}
-use Rattle.answer.specs.declared.Answer.{Answer}
+use Rattle.answer.specs.Answer.{Answer}
 use Rattle.mend.specs.TextLines.{TextLine, LinesOf}
 use Rattle.mend.specs.Mended.{mended, fates}
 use Rattle.mend.specs.Report.{report_of}

@@ -5,7 +5,7 @@ use Rattle.register.specs.Number.{IsNumber, number_bytes}
 use Rattle.register.specs.declared.TextFault.TheVariants.{Spoiled}
 use Rattle.answer.specs.declared.Refusal.{Refusal}
 use Rattle.answer.specs.declared.Refusal.TheVariants.{Text}
-use Rattle.answer.specs.declared.Answer.{Answer}
+use Rattle.answer.specs.Answer.{Answer}
 use Rattle.answer.specs.Answer.{OnInput, Short, Written}
 
 -- the bytes are this number, as a register text has it

@@ -5,7 +5,7 @@ use Rattle.lists.specs.Refuses.{Refuses, Lists}
 use Rattle.lists.specs.declared.ListsFault.{ListsFault}
 use Rattle.answer.specs.declared.Refusal.{Refusal}
 use Rattle.answer.specs.declared.Refusal.TheVariants as refusal
-use Rattle.answer.specs.declared.Answer.{Answer}
+use Rattle.answer.specs.Answer.{Answer}
 use Rattle.answer.specs.Answer.{OnInput}
 
 module _ (marks objectors targets : List ℕ) where

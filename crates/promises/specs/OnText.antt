@@ -6,7 +6,7 @@ use Rattle.register.specs.Reads.{Refuses, Accepts}
 use Rattle.register.specs.declared.TextFault.{TextFault}
 use Rattle.answer.specs.declared.Refusal.{Refusal}
 use Rattle.answer.specs.declared.Refusal.TheVariants.{Text}
-use Rattle.answer.specs.declared.Answer.{Answer}
+use Rattle.answer.specs.Answer.{Answer}
 use Rattle.answer.specs.Answer.{OnInput}
 
 -- the text is refused for the fault that it has

@@ -4,7 +4,7 @@ use Rattle.register.specs.Register.{Register, Places, Issued}
 use Rattle.promises.specs.OnText.{OnText}
 use Rattle.answer.specs.declared.Refusal.{Refusal}
 use Rattle.answer.specs.Answer.{Written, Asks}
-use Rattle.answer.specs.declared.Answer.{Answer}
+use Rattle.answer.specs.Answer.{Answer}
 use Rattle.reason.specs.Reasons.{IsReason}
 
 -- The room holds the reason of the statement of this number, n bytes; the room is shorter than that; and what is refused: 14,

@@ -6,7 +6,7 @@ use Rattle.game.specs.Book.{Book}
 use Rattle.answer.specs.declared.Refusal.{Refusal}
 use Rattle.answer.specs.declared.Refusal.TheVariants.{Sheet}
 use Rattle.answer.specs.Answer.{Written, Begins, Short}
-use Rattle.answer.specs.declared.Answer.{Answer}
+use Rattle.answer.specs.Answer.{Answer}
 use Rattle.sheet.specs.Sheet.{IsSheet, codes, total, bytes_for, SoundSheet}
 use Rattle.register.specs.Register.{book}
 use Rattle.promises.specs.OnText.{OnText}

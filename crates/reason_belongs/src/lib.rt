@@ -3,39 +3,26 @@
 #![tactic(auto)]
 
 ghost use Rattle.std.specs.Prelude.{◌<◌, length, get_or};
-ghost use Rattle.game.specs.Book.{book_of};
 ghost use Rattle.game.specs.Questions.{Decides};
 ghost use Rattle.game.specs.Reason.{Belongs};
-ghost use Rattle.label_solve.specs.Labelled.{ListsLabelled};
+ghost use Rattle.lists.specs.PairsBook.{pairs_book};
+ghost use Rattle.label_solve.specs.AreLabelled.{AreLabelled};
 
 use game::Kind;
-use pair_chain::place;
+use label_kind::kind_at;
+use label_solve::LabelledPairs;
 
 // Whether the objection k belongs to the reasons that come to its target.
-pub fn belongs(
-    marks: &[u8],
-    objectors: &[u32],
-    targets: &[u32],
-    labels: &[u8],
-    lengths: &[u16],
-    k: usize,
-) -> bool
-    requires { ListsLabelled marks.now objectors.now targets.now labels.now lengths.now
-        × (k < length objectors.now) }
-    ensures { Decides (Belongs (book_of marks.now objectors.now targets.now)
-        (get_or objectors.now k 0) (get_or targets.now k 0)) result }
+pub fn belongs(labelled: &LabelledPairs, k: usize) -> bool
+    requires { AreLabelled labelled.now × (k < length labelled.now.pairs.objectors.now) }
+    ensures { Decides (Belongs (pairs_book labelled.now.pairs) (get_or labelled.now.pairs.objectors.now k 0)
+        (get_or labelled.now.pairs.targets.now k 0)) result }
 {
-    let kind = label_kind::kind_at(marks, objectors, targets, labels, lengths, k);
-    let target_length = lengths[place(targets[k])];
-    match kind {
+    let target_length = labelled.lengths[labelled.pairs.targets[k] as usize];
+    match kind_at(labelled, k) {
         Kind::Idle => false,
-        Kind::Felling(length) => {
-            if length == target_length {
-                return true;
-            }
-            false
-        }
-        Kind::Delaying(_length) => true,
+        Kind::Felling(length) => length == target_length,
+        Kind::Delaying(_) => true,
         Kind::Standoff => true,
     }
 }

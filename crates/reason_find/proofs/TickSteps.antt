@@ -5,17 +5,17 @@ use mathlib.Core.Logic.{⊎_elim, ◌↔◌}
 use mathlib.Core.Path.{subst, sym, ap, ◌≡◌, ◌∙◌}
 use Prim.Native.Nat.{ℕ, ◌+◌, ◌-◌, ◌≤◌, ◌<◌}
 use native.Mathlib.Omega.{arith}
-use lib.ListN.{get_or, length, set}
+use lib.ListN.{get_or, length}
 use Rattle.game.specs.Book.{book_of, Book, InOrder, Listed}
 use Rattle.game.specs.Questions.{Decides}
 use Rattle.game.specs.Reason.{Belongs, Reaches, asked, onward, InReason}
 use Rattle.game.proofs.HandedBook.{objects_entry}
 use Rattle.game.proofs.Reason.{reaches_listed}
 use Rattle.pair_chain.specs.Linked.{Walk, Chains}
-use Rattle.pair_chain.proofs.ChainSteps.{split, stored}
-use Rattle.pair_chain.proofs.ChainWalks.{walk_begins, walk_entry, walk_more, walk_map, walk_ends}
+use Rattle.pair_chain.proofs.ChainSteps.{split}
+use Rattle.pair_chain.proofs.ChainWalks.{walk_entry, walk_more, walk_map, walk_ends}
 use Rattle.reason_find.specs.Ticks.{Ticked, Grown, Queued, ReachTicked}
-use Rattle.reason_find.proofs.Ticks.{grown_none, grown_more}
+use Rattle.reason_find.proofs.Ticks.{grown_more}
 
 -- an objection that was looked at: if it belongs to the reasons that come to x, its objector has a tick
 abbrev pub Seen : (marks objectors targets : List ℕ) → ℕ → List ℕ → ℕ → Type 0
@@ -36,36 +36,21 @@ module _ (marks objectors targets head next : List ℕ) (chains : Chains marks t
   abbrev At : ℕ → List ℕ → List ℕ → ℕ → Type 0
   At = Following marks objectors targets n x tail room₀ queue₀
 
-  pub follow_begins : {c : ℕ} → Queued n tail room₀ queue₀ → x < length marks → c ≡ get_or head x 0 → At tail room₀ queue₀ c
-  follow_begins q h e = record {
-    grown = grown_none (λ y. Belongs B y x) n tail room₀ queue₀ q;
-    walk = walk_begins chains.chained (omega (arith, chains.head_room)) e;
-  }
-
   module _ (end : ℕ) (room queue : List ℕ) (c : ℕ) (f : At end room queue c) (t : c ≡ 0 → ⊥) (d : ℕ)
       (e : d ≡ get_or next (c - 1) 0) where
     target_is : get_or targets (c - 1) 0 ≡ x
     target_is = (walk_entry f.walk t).1
 
-    pub follow_passes : ¬ Belongs B (get_or objectors (c - 1) 0) (get_or targets (c - 1) 0) → At end room queue d
-    follow_passes p = record {
-      grown = f.grown;
-      walk =
-          walk_more chains.chained f.walk t e
-          (λ b. absurd (p (subst (Belongs B (get_or objectors (c - 1) 0)) (sym target_is) b)));
-    }
-
-    pub follow_comes : (y end' : ℕ) (room' queue' : List ℕ) → Belongs B (get_or objectors (c - 1) 0) (get_or targets (c - 1) 0)
-        → y ≡ get_or objectors (c - 1) 0 → Grown (λ z. z ≡ y) n end room queue end' room' queue' → Ticked room' y
-        → At end' room' queue' d
-    follow_comes y end' room' queue' b p g m = record {
+    pub follow_comes : (end' : ℕ) (room' queue' : List ℕ) → Belongs B (get_or objectors (c - 1) 0) (get_or targets (c - 1) 0)
+        → Grown (λ z. z ≡ get_or objectors (c - 1) 0) n end room queue end' room' queue'
+        → Ticked room' (get_or objectors (c - 1) 0) → At end' room' queue' d
+    follow_comes end' room' queue' b g m = record {
       grown =
-          grown_more (λ z. Belongs B z x) (λ z. z ≡ y) n tail room₀ queue₀ end room queue end' room' queue'
-          f.grown (λ z q. subst (λ u. Belongs B u x) (sym (q ∙ p)) (subst (Belongs B (get_or objectors
-          (c - 1) 0)) target_is b)) g;
+          grown_more (λ z. Belongs B z x) (λ z. z ≡ get_or objectors (c - 1) 0) n tail room₀ queue₀ end room queue end' room'
+          queue' f.grown
+          (λ z q. subst (λ u. Belongs B u x) (sym q) (subst (Belongs B (get_or objectors (c - 1) 0)) target_is b)) g;
       walk =
-          walk_more chains.chained (walk_map (λ k s h. g.kept (get_or objectors k 0) (s h)) f.walk) t e
-          (λ h. subst (Ticked room') p m);
+          walk_more chains.chained (walk_map (λ k s h. g.kept (get_or objectors k 0) (s h)) f.walk) t e (λ h. m);
     }
 
   pub follow_ends : length targets ≡ length objectors → (end : ℕ) (room queue : List ℕ) (c : ℕ) → At end room queue c → c ≡ 0
@@ -140,15 +125,15 @@ module _ (marks objectors targets : List ℕ) (order : InOrder marks objectors t
   unfolding book_of
   listed = order.target k l
 
-  pub apart : (x : ℕ) → x ≡ get_or targets k 0 → get_or room x 0 ≡ 0
+  pub apart : get_or room (get_or targets k 0) 0 ≡ 0
       → ¬ InReason (book_of marks objectors targets) a (get_or objectors k 0) (get_or targets k 0)
-  apart x e z i = (r (get_or targets k 0) listed).1 i.0 (subst (λ u. get_or room u 0 ≡ 0) e z)
+  apart z i = (r (get_or targets k 0) listed).1 i.0 z
 
-  pub within : (x : ℕ) → x ≡ get_or targets k 0 → Ticked room x → (b : Bool)
+  pub within : Ticked room (get_or targets k 0) → (b : Bool)
       → Decides (Belongs (book_of marks objectors targets) (get_or objectors k 0) (get_or targets k 0)) b
       → Decides (InReason (book_of marks objectors targets) a (get_or objectors k 0) (get_or targets k 0)) b
-  within x e m true d = ((r (get_or targets k 0) listed).0 (subst (Ticked room) e m), d)
-  within x e m false d = λ i. d i.1
+  within m true d = ((r (get_or targets k 0) listed).0 m, d)
+  within m false d = λ i. d i.1
 
 -- the objections before k are looked at
 abbrev pub Choosing : (marks objectors targets : List ℕ) → ℕ → List ℕ → ℕ → Type 0
@@ -156,40 +141,3 @@ Choosing marks objectors targets a inside k =
     ((j : ℕ) → j < k
     → Ticked inside j ↔ InReason (book_of marks objectors targets) a (get_or objectors j 0) (get_or targets j 0))
     × ((j : ℕ) → k ≤ j → get_or inside j 0 ≡ 0)
-
-module _ (marks objectors targets : List ℕ) (a : ℕ) (inside : List ℕ) (k : ℕ)
-    (c : Choosing marks objectors targets a inside k) where
-  pub chosen_in : k < length inside → InReason (book_of marks objectors targets) a (get_or objectors k 0) (get_or targets k 0)
-      → Choosing marks objectors targets a (set inside k 1) (k + 1)
-  chosen_in l i = (λ j h. ⊎_elim (old j) (here j) (split h), beyond)
-    where
-      Right : ℕ → List ℕ → Type 0
-      Right j room = Ticked room j ↔ InReason (book_of marks objectors targets) a (get_or objectors j 0) (get_or targets j 0)
-
-      old : (j : ℕ) → j < k → Right j (set inside k 1)
-      old j h = ⊎_elim (λ q. absurd (omega (arith, q.0))) (λ q. (
-        λ m. (c.0 j h).0 (λ e. m (q.1 ∙ e)),
-        λ r e. (c.0 j h).1 r (sym q.1 ∙ e),
-      )) (stored inside k 1 l j)
-
-      beyond : (j : ℕ) → k + 1 ≤ j → get_or (set inside k 1) j 0 ≡ 0
-      beyond j h =
-          ⊎_elim (λ q. absurd (omega (arith, q.0))) (λ q. q.1 ∙ c.1 j (omega arith)) (stored inside k 1 l j)
-
-      here : (j : ℕ) → j ≡ k → Right j (set inside k 1)
-      here j e = ⊎_elim (λ q. (
-        λ m. subst (λ u. InReason (book_of marks objectors targets) a (get_or objectors u 0) (get_or targets u 0)) (sym e) i,
-        λ r z. omega (arith, q.1),
-      )) (λ q. absurd (q.0 e)) (stored inside k 1 l j)
-
-  pub chosen_out : ¬ InReason (book_of marks objectors targets) a (get_or objectors k 0) (get_or targets k 0)
-      → Choosing marks objectors targets a inside (k + 1)
-  chosen_out n = (λ j h. ⊎_elim (c.0 j) (here j) (split h), λ j h. c.1 j (omega arith))
-    where
-      here : (j : ℕ) → j ≡ k
-          → Ticked inside j ↔ InReason (book_of marks objectors targets) a (get_or objectors j 0) (get_or targets j 0)
-      here j e = (
-        λ m. absurd (m (c.1 j (omega arith))),
-        λ r. absurd (n (subst (λ u. InReason (book_of marks objectors targets) a (get_or objectors u 0) (get_or targets u 0)) e
-            r)),
-      )

@@ -20,10 +20,6 @@ queued_none n room queue e h z = record {
   each = λ x m. absurd (m (z x));
 }
 
-pub grown_none : (P : ℕ → Type 0) (n t : ℕ) (room queue : List ℕ) → Queued n t room queue → Grown P n t room queue t room queue
-grown_none P n t room queue q =
-    record { queued = q; kept = λ x m. m; new = λ x m. inl m; longer = omega arith; as_long = refl; before = λ i h. refl }
-
 pub grown_more : (P Q : ℕ → Type 0) (n t : ℕ) (room queue : List ℕ) (r : ℕ) (room' queue' : List ℕ) (s : ℕ)
     (room'' queue'' : List ℕ) → Grown P n t room queue r room' queue' → ((x : ℕ) → Q x → P x)
     → Grown Q n r room' queue' s room'' queue'' → Grown P n t room queue s room'' queue''
@@ -86,13 +82,6 @@ module _ (n t y : ℕ) (room queue : List ℕ) (q : Queued n t room queue) (l : 
       again x m = let (i, h, e) = q.each x m in (i, omega arith, earlier i h ∙ e)
 
 -- the statements are as many as the room has entries
-pub queued_in_room : (n t : ℕ) (room queue : List ℕ) → Queued n t room queue → Queued (length room) t room queue
-queued_in_room n t room queue q = subst (λ m. Queued m t room queue) (sym q.same) q
-
 pub grown_in_room : (P : ℕ → Type 0) (n t : ℕ) (room queue : List ℕ) (r : ℕ) (room' queue' : List ℕ) → length room ≡ n
     → Grown P (length room) t room queue r room' queue' → Grown P n t room queue r room' queue'
 grown_in_room P n t room queue r room' queue' e g = subst (λ m. Grown P m t room queue r room' queue') e g
-
--- no more are queued than there are statements
-pub queue_few : (n t : ℕ) (room queue : List ℕ) → Queued n t room queue → t ≤ n
-queue_few n t room queue q = omega (arith, q.full)

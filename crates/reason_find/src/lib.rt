@@ -8,14 +8,15 @@
 #![tactic(auto)]
 
 ghost use Rattle.std.specs.Prelude.{◌≡◌, ◌<◌, ◌≤◌, ℕ, length, get_or};
-ghost use Rattle.game.specs.Book.{book_of};
 ghost use Rattle.game.specs.Questions.{Decides};
 ghost use Rattle.game.specs.Reason.{Belongs, InReason};
+ghost use Rattle.lists.specs.PairsBook.{pairs_book};
 ghost use Rattle.pair_chain.specs.Linked.{Chains};
-ghost use Rattle.label_solve.specs.Labelled.{ListsLabelled};
+ghost use Rattle.label_solve.specs.AreLabelled.{AreLabelled};
 ghost use Rattle.reason_find.specs.Ticks.{Queued, Grown, Ticked, ReachTicked, Chosen};
 
-use pair_chain::{chain, place, wide};
+use label_solve::LabelledPairs;
+use pair_chain::{Links, chain};
 use reason_belongs::belongs;
 
 // Comes to the statement y: it gets a tick and is queued behind the others, unless it has its tick.
@@ -35,126 +36,84 @@ fn tick_statement(y: usize, room: &mut [u8], queue: &mut [u16], tail: usize) -> 
 
 // Comes from x to the objectors whose objections against it belong to the reason.
 fn tick_objectors(
-    marks: &[u8],
-    objectors: &[u32],
-    targets: &[u32],
-    head: &[u16],
-    next: &[u16],
-    labels: &[u8],
-    lengths: &[u16],
+    labelled: &LabelledPairs,
+    links: &Links,
     x: usize,
     room: &mut [u8],
     queue: &mut [u16],
     tail: usize,
 ) -> usize
-    requires lists_labelled { ListsLabelled marks.now objectors.now targets.now labels.now lengths.now
-        × Chains marks.now targets.now head.now next.now × (x < length marks.now) }
-    requires queued { Queued (length room.old) tail room.old queue.old × (length marks.now ≤ length room.old)
-        × (length room.old < 65536) }
-    ensures grown { Grown (λ y. Belongs (book_of marks.now objectors.now targets.now) y x)
+    requires lists_labelled { AreLabelled labelled.now × (x < length labelled.now.pairs.marks.now) }
+    requires chains { Chains labelled.now.pairs.marks.now labelled.now.pairs.targets.now links.now.head.now links.now.next.now }
+    requires queued { Queued (length room.old) tail room.old queue.old
+        × (length labelled.now.pairs.marks.now ≤ length room.old) × (length room.old < 65536) }
+    ensures grown { Grown (λ y. Belongs (pairs_book labelled.now.pairs) y x)
         (length room.old) tail room.old queue.old result room.new queue.new }
-    ensures by_index { (y : ℕ) → Belongs (book_of marks.now objectors.now targets.now) y x
-        → Ticked room.new y }
+    ensures ticked { (y : ℕ) → Belongs (pairs_book labelled.now.pairs) y x → Ticked room.new y }
 {
     let mut end = tail;
-    let mut c = wide(head[x]);
+    let mut c = usize::from(links.head[x]);
     // The objectors of x passed whose objections belong to the reason have a tick and are in the queue before `end`.
     while c != 0 {
         let k = c - 1;
-        c = wide(next[k]);
-        if belongs(marks, objectors, targets, labels, lengths, k) {
-            end = tick_statement(place(objectors[k]), room, queue, end);
+        c = usize::from(links.next[k]);
+        if belongs(labelled, k) {
+            end = tick_statement(labelled.pairs.objectors[k] as usize, room, queue, end);
         }
     }
     end
 }
 
 // Ticks the statements that the reason for the asked one comes to, in a room that has no tick yet.
-fn reach(
-    marks: &[u8],
-    objectors: &[u32],
-    targets: &[u32],
-    labels: &[u8],
-    lengths: &[u16],
-    asked: usize,
-    room: &mut [u8],
-)
-    requires lists_labelled { ListsLabelled marks.now objectors.now targets.now labels.now lengths.now
-        × (asked < length marks.now) }
+fn reach(labelled: &LabelledPairs, asked: usize, room: &mut [u8])
+    requires lists_labelled { AreLabelled labelled.now × (asked < length labelled.now.pairs.marks.now) }
     requires room_len { (length room.old ≡ 1024) × ((x : ℕ) → get_or room.old x 0 ≡ 0) }
-    ensures { ReachTicked (book_of marks.now objectors.now targets.now) asked
-        room.new }
+    ensures { ReachTicked (pairs_book labelled.now.pairs) asked room.new }
 {
     let mut head = [0u16; 1024];
     let mut next = [0u16; 4096];
     let mut queue = [0u16; 1024];
-    chain(targets, &mut head, &mut next);
+    chain(labelled.pairs.targets, &mut head, &mut next);
+    let links = Links {
+        head: &head,
+        next: &next,
+    };
     let mut tail = tick_statement(asked, room, &mut queue, 0);
     let mut at = 0;
-    // The queue holds the statements with a tick; the reason comes to each of them, and those before `at` are looked at.
+    // The queue holds the statements with a tick; the reason comes to each of them, and those before `at` are looked at. The end
+    // moves on while the queue is gone through, so that no `for` fits.
     while at < tail {
-        let x = wide(queue[at]);
-        tail = tick_objectors(
-            marks, objectors, targets, &head, &next, labels, lengths, x, room, &mut queue, tail,
-        );
+        let x = usize::from(queue[at]);
+        tail = tick_objectors(labelled, &links, x, room, &mut queue, tail);
         at += 1;
     }
 }
 
 // Whether the objection k is in the reason for the asked statement, of which the statements that it comes to have a tick.
-fn in_reason(
-    marks: &[u8],
-    objectors: &[u32],
-    targets: &[u32],
-    labels: &[u8],
-    lengths: &[u16],
-    room: &[u8],
-    k: usize,
-) -> bool
-    requires { ListsLabelled marks.now objectors.now targets.now labels.now lengths.now × (k < length objectors.now)
-        × (length marks.now ≤ length room.now) }
-    ensures { (a : ℕ) → ReachTicked (book_of marks.now objectors.now targets.now) a
-        room.now → Decides (InReason (book_of marks.now objectors.now targets.now) a
-        (get_or objectors.now k 0) (get_or targets.now k 0)) result }
+fn in_reason(labelled: &LabelledPairs, room: &[u8], k: usize) -> bool
+    requires { AreLabelled labelled.now × (k < length labelled.now.pairs.objectors.now)
+        × (length labelled.now.pairs.marks.now ≤ length room.now) }
+    ensures { (a : ℕ) → ReachTicked (pairs_book labelled.now.pairs) a room.now
+        → Decides (InReason (pairs_book labelled.now.pairs) a (get_or labelled.now.pairs.objectors.now k 0)
+        (get_or labelled.now.pairs.targets.now k 0)) result }
 {
-    let x = place(targets[k]);
-    if room[x] == 0 {
-        return false;
-    }
-    belongs(marks, objectors, targets, labels, lengths, k)
+    let x = labelled.pairs.targets[k] as usize;
+    room[x] != 0 && belongs(labelled, k)
 }
 
 // Ticks the objections in the reason for the asked statement, in a room that has no tick yet.
-pub fn choose(
-    marks: &[u8],
-    objectors: &[u32],
-    targets: &[u32],
-    labels: &[u8],
-    lengths: &[u16],
-    asked: usize,
-    inside: &mut [u8],
-)
-    requires lists_labelled { ListsLabelled marks.now objectors.now targets.now labels.now lengths.now
-        × (asked < length marks.now) }
-    requires objectors_in_bounds { (length objectors.now ≤ length inside.old) × ((k : ℕ) → get_or inside.old k 0 ≡ 0) }
-    ensures { Chosen marks.now objectors.now targets.now asked inside.new }
+pub fn choose(labelled: &LabelledPairs, asked: usize, inside: &mut [u8])
+    requires lists_labelled { AreLabelled labelled.now × (asked < length labelled.now.pairs.marks.now) }
+    requires objectors_in_bounds { (length labelled.now.pairs.objectors.now ≤ length inside.old)
+        × ((k : ℕ) → get_or inside.old k 0 ≡ 0) }
+    ensures { Chosen labelled.now.pairs.marks.now labelled.now.pairs.objectors.now labelled.now.pairs.targets.now asked
+        inside.new }
 {
     let mut reached = [0u8; 1024];
-    reach(
-        marks,
-        objectors,
-        targets,
-        labels,
-        lengths,
-        asked,
-        &mut reached,
-    );
-    let mut next = 0;
-    // Of the first `next` objections those in the reason have a tick, and no other objection has one.
-    while next < objectors.len() {
-        let k = next;
-        next += 1;
-        if in_reason(marks, objectors, targets, labels, lengths, &reached, k) {
+    reach(labelled, asked, &mut reached);
+    // Of the first k objections those in the reason have a tick, and no other objection has one.
+    for k in 0..labelled.pairs.objectors.len() {
+        if in_reason(labelled, &reached, k) {
             inside[k] = 1;
         }
     }

@@ -5,7 +5,6 @@ use mathlib.Core.Path.{refl, subst, ap, sym, ◌≡◌, ◌∙◌}
 use Prim.Native.Nat.{ℕ, zero, suc, ◌+◌, ◌*◌, ◌-◌, ◌/◌, ◌≤◌, ◌<◌}
 use native.Mathlib.Omega.{arith}
 use lib.ListN.{replicate, length-replicate, get_or, length, set, length-set}
-use Rattle.game.specs.Questions.{Found}
 use Rattle.pair_chain.proofs.ChainSteps.{all_zero, stored}
 use Rattle.register_index.specs.Indexed.{slot, Indexed, Leads, Free, New}
 
@@ -83,15 +82,6 @@ module _ (numbers : List ℕ) (n : ℕ) (links : List ℕ) (ix : Indexed numbers
             → (0 < get_or links (slot (rest / 8) node) 0) × ((k : ℕ) × (rest' : ℕ)
             × Leads links k (rest / 8 / 8) (get_or links (slot (rest / 8) node) 0) rest' (x + 1))
         go x q (k, rest', l) = down links k (rest / 8) node rest' (x + 1) (other x q) l
-
-    -- a number found stands there alone
-    pub seek_found : (x : ℕ) → x < n → get_or numbers x 0 ≡ number → Found (λ i. get_or numbers i 0 ≡ number) n x
-    seek_found x h e = (omega arith, (λ j l q. ix.once j x l h (q ∙ sym e)), λ _. e)
-
-    -- where no way goes on it is nowhere
-    pub seek_ends : (rest node : ℕ) → Seeks numbers n links number rest node → node ≡ 0
-        → Found (λ i. get_or numbers i 0 ≡ number) n n
-    seek_ends rest node w z = (omega arith, (λ j l q. omega (arith, (w.1 j l q).0)), λ l. absurd (omega arith))
 
 -- one step more
 onward : (links : List ℕ) (k rest node rest' node' : ℕ) → Leads links k rest node rest' node'

@@ -1,1 +1,2 @@
+pub mod IndexAt
 pub mod Indexed

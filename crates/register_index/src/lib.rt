@@ -3,19 +3,23 @@
 // to the caller.
 //
 // `links` has eight slots for each of 1,024 places and for the root, 8 · 1,025 = 8,200 entries of 16 bits: slot 8 · p + d leads
-// from the place p, counted from 1, on by the digit d, and 0 leads nowhere. The last digit comes first, since numbers that are
-// issued one after the other differ there. No choice of numbers makes it slow, as a hash table can be made: a number's code is
-// below 121,000,000, so below 8 to the 9th, and nine steps are the most (eleven for 32 bits that are nobody's); no contract says
-// so.
+// from the place p, counted from 1, on by the digit d, and 0 leads nowhere (an Option would take twice the room). The last digit
+// comes first, since numbers that are issued one after the other differ there. No choice of numbers makes it slow, as a hash
+// table can be made: a number's code is below 121,000,000, so below 8 to the 9th, and nine steps are the most (eleven for 32 bits
+// that are nobody's); no contract says so.
 #![tactic(auto)]
 
-ghost use Rattle.std.specs.Prelude.{◌≡◌, ◌≤◌, ◌+◌, length, get_or, set};
-ghost use Rattle.game.specs.Questions.{Found};
-ghost use Rattle.register_index.specs.Indexed.{slot, Indexed, Free, New};
+mod number_index;
 
-use pair_chain::wide;
+ghost use Rattle.std.specs.Prelude.{◌≡◌, ◌≤◌, ◌+◌, length, get_or, set};
+ghost use Rattle.game.specs.Questions.{FirstBelow};
+ghost use Rattle.register_index.specs.Indexed.{slot, Free, New};
+ghost use Rattle.register_index.specs.IndexAt.{IsIndexed, SameParts};
+
+pub use number_index::NumberIndex;
 
 // The slot of a node for the last digit of what is left.
+#[tactic(auto, unfolding(crate::specs::Indexed::slot))]
 fn slot_of(rest: u32, node: usize) -> usize
     requires { node ≤ 1024 }
     ensures { result ≡ slot rest node }
@@ -24,72 +28,67 @@ fn slot_of(rest: u32, node: usize) -> usize
 }
 
 // The node to which the last digit of what is left leads, or 0.
+#[tactic(auto, unfolding(crate::specs::Indexed::slot))]
 fn below(links: &[u16], rest: u32, node: usize) -> usize
     requires { (length links.now ≡ 8200) × (node ≤ 1024) }
     ensures { result ≡ get_or links.now (slot rest node) 0 }
 {
     let s = slot_of(rest, node);
-    wide(links[s])
+    usize::from(links[s])
 }
 
-// The place of a number among the first n, or n.
-pub fn look_up(numbers: &[u32], n: usize, links: &[u16], number: u32) -> usize
-    requires { Indexed numbers.now n links.now }
-    ensures { Found (λ x. get_or numbers.now x 0 ≡ number) n result }
+// The place of a number among the first n, if it is there.
+pub fn look_up(index: &NumberIndex, number: u32) -> Option<usize>
+    requires { IsIndexed index.now }
+    ensures { FirstBelow (λ x. get_or index.now.numbers.now x 0 ≡ number) index.now.n result }
 {
     let mut rest = number;
-    let mut node = below(links, rest, 0);
+    let mut node = below(index.links, rest, 0);
     // The number, if it is among the first n, is at the node or below it.
     while node != 0 {
-        if numbers[node - 1] == number {
-            return node - 1;
+        if index.numbers[node - 1] == number {
+            return Some(node - 1);
         }
         rest = rest / 8;
-        node = below(links, rest, node);
+        node = below(index.links, rest, node);
     }
-    n
+    None
 }
 
 // The free slot to which the digits of a number lead.
-fn free_slot(numbers: &[u32], n: usize, links: &[u16], number: u32) -> usize
-    requires { Indexed numbers.now n links.now }
-    ensures { Free n links.now number result }
+fn free_slot(index: &NumberIndex, number: u32) -> usize
+    requires { IsIndexed index.now }
+    ensures { Free index.now.n index.now.links.now number result }
 {
     let mut rest = number;
     let mut node = 0;
-    let mut next = below(links, rest, node);
+    let mut next = below(index.links, rest, node);
     // The digits passed lead to the node, and the last digit of `rest` leads on to `next`, or nowhere if that is 0.
     while next != 0 {
         node = next;
         rest = rest / 8;
-        next = below(links, rest, node);
+        next = below(index.links, rest, node);
     }
     slot_of(rest, node)
 }
 
-// Enters a new number at place n.
-pub fn enter(numbers: &mut [u32], n: usize, links: &mut [u16], number: u32)
-    requires { Indexed numbers.old n links.old × New numbers.old n number }
-    ensures { (numbers.new ≡ set numbers.old n number)
-        × Indexed numbers.new (n + 1) links.new }
+// Enters a new number, at place n.
+pub fn enter(index: &mut NumberIndex, number: u32)
+    requires { IsIndexed index.old × New index.old.numbers.now index.old.n number }
+    ensures entered { (index.new.numbers.now ≡ set index.old.numbers.now index.old.n number) × (index.new.n ≡ index.old.n + 1) }
+    ensures indexed { IsIndexed index.new }
+    ensures same { SameParts index.old index.new }
 {
-    let s = free_slot(numbers, n, links, number);
-    numbers[n] = number;
-    links[s] = (n + 1) as u16;
+    let n = index.n;
+    let s = free_slot(index, number);
+    index.numbers[n] = number;
+    index.links[s] = (n + 1) as u16;
+    index.n = n + 1;
 }
 
-// The place of a number among the first n, or n.
-pub fn find(numbers: &[u32], n: usize, number: u32) -> usize
-    requires { n ≤ length numbers.now }
-    ensures { Found (λ x. get_or numbers.now x 0 ≡ number) n result }
+// The place of a number, if it is there.
+pub fn find(numbers: &[u32], number: u32) -> Option<usize>
+    ensures { FirstBelow (λ x. get_or numbers.now x 0 ≡ number) (length numbers.now) result }
 {
-    let mut x = 0;
-    // None of the first x numbers is the one asked for.
-    while x < n {
-        if numbers[x] == number {
-            return x;
-        }
-        x += 1;
-    }
-    x
+    numbers.iter().position(|&x| x == number)
 }

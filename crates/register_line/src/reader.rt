@@ -3,7 +3,8 @@
 ghost use Rattle.std.specs.Prelude.{◌≡◌};
 ghost use Rattle.register_line.specs.LineReading.{GotAt};
 
-use crate::{Got, line_at};
+use crate::line_at;
+use register::Line;
 
 #[derive(Drop)]
 pub struct Reader<'a> {
@@ -17,13 +18,13 @@ pub fn placed<'a>(text: &'a [u8], at: usize) -> Reader<'a>
     Reader { text, at }
 }
 
-pub fn next<'a>(r: Reader<'a>) -> Got
+pub fn next<'a>(r: Reader<'a>) -> Option<(Line, usize)>
     ensures { GotAt r.entry.text.now r.entry.at result }
 {
     line_at(r.text, r.at)
 }
 
-pub fn line_from(s: &[u8], at: usize) -> Got
+pub fn line_from(s: &[u8], at: usize) -> Option<(Line, usize)>
     ensures { GotAt s.now at result }
 {
     next(placed(s, at))

@@ -13,8 +13,7 @@ use Rattle.register.specs.declared.YearSerial.{YearSerial}
 use Rattle.register.proofs.Decimals.{decimal_digits, decimal_injective}
 use Rattle.register.proofs.Number.{code_number, code_bytes}
 use Rattle.register_number.specs.NumberReading.{byte_at, Parted, NoDigit, DigitsAt, FormAt, NumberAt}
-use Rattle.register_number.specs.declared.NumberRead.TheVariants.{Value, NoNumber}
-use Rattle.register_number.specs.declared.FormRead.TheVariants.{Found, NoForm}
+use Rattle.std.specs.Prelude.{Some, None}
 use Rattle.register_number.proofs.NumberSteps.{first_byte, byte_first, second_bytes, digits_once}
 
 -- what may stand behind a number begins with no digit, nor does what stands behind a year, which is a point
@@ -37,14 +36,14 @@ module _ (s : List ℕ) (at : ℕ) where
       → drop at s ≡ decimal dated.year ++ pointed dated rest
   year_parts dated rest e = e ∙ append_assoc (decimal dated.year) (46 ∷ decimal dated.serial) rest
 
-  pub no_digits : (limit : ℕ) → DigitsAt s at limit NoNumber → 100000000 ≤ limit → FormAt s at NoForm
+  pub no_digits : (limit : ℕ) → DigitsAt s at limit None → 100000000 ≤ limit → FormAt s at None
   no_digits limit none l (Plain value) rest h k e = none value rest h.0 (omega (arith, h)) (behind_number_lem rest k) e
   no_digits limit none l (Year dated) rest h k e =
       none dated.year (pointed dated rest) (omega (arith, h)) (omega (arith, h))
       (behind_year (decimal dated.serial ++ rest)) (year_parts dated rest e)
 
   -- digits were read: which number stands there, if any does
-  module _ (limit value end : ℕ) (digits : DigitsAt s at limit (Value value end)) (low : limit ≤ 100000000) where
+  module _ (limit value end : ℕ) (digits : DigitsAt s at limit (Some (value, end))) (low : limit ≤ 100000000) where
     plain_there : (other : ℕ) (rest : List ℕ) → Proper (Plain other) → Parted rest → drop at s ≡ decimal other ++ rest
         → (other ≡ value) × (drop end s ≡ rest)
     plain_there other rest h k e =
@@ -60,7 +59,7 @@ module _ (s : List ℕ) (at : ℕ) where
         (sym digits.4 ∙ year_parts dated rest e) in
         (sym (decimal_injective value dated.year (omega (arith, digits.1)) (omega (arith, h)) p), q)
 
-    pub plain_found : (byte_at s end ≡ 46 → ⊥) → FormAt s at (Found (Plain value) end)
+    pub plain_found : (byte_at s end ≡ 46 → ⊥) → FormAt s at (Some (Plain value, end))
     plain_found other = ((digits.0, omega (arith, digits.1)), digits.2, digits.3, digits.4, only)
       where
         only : (form : Form) (rest : List ℕ) → Proper form → Parted rest → drop at s ≡ form_bytes form ++ rest → form ≡ Plain
@@ -79,18 +78,18 @@ module _ (s : List ℕ) (at : ℕ) where
           → drop (end + 1) s ≡ decimal dated.serial ++ rest
       serial_there dated rest h e = second_bytes s end 46 _ (year_there dated rest h e).1
 
-      pub year_outside : ((1000 ≤ value) × (value ≤ 2099) → ⊥) → FormAt s at NoForm
+      pub year_outside : ((1000 ≤ value) × (value ≤ 2099) → ⊥) → FormAt s at None
       year_outside out (Plain n) rest h k e = not_plain n rest h k e
       year_outside out (Year dated) rest h k e =
           let y : dated.year ≡ value = (year_there dated rest h e).0 in out (omega (arith, h), omega (arith, h))
 
-      pub no_serial : (most : ℕ) → DigitsAt s (end + 1) most NoNumber → 10000 ≤ most → FormAt s at NoForm
+      pub no_serial : (most : ℕ) → DigitsAt s (end + 1) most None → 10000 ≤ most → FormAt s at None
       no_serial most none m (Plain n) rest h k e = not_plain n rest h k e
       no_serial most none m (Year dated) rest h k e =
           none dated.serial rest h.2 (omega (arith, h)) (behind_number_lem rest k) (serial_there dated rest h e)
 
-      pub year_found : 1000 ≤ value → value ≤ 2099 → (most serial last : ℕ) → DigitsAt s (end + 1) most (Value serial last)
-          → most ≤ 10000 → FormAt s at (Found (Year (record { year = value; serial = serial })) last)
+      pub year_found : 1000 ≤ value → value ≤ 2099 → (most serial last : ℕ) → DigitsAt s (end + 1) most (Some (serial, last))
+          → most ≤ 10000 → FormAt s at (Some (Year (record { year = value; serial = serial }), last))
       year_found l u most serial last more m =
           ((l, u, more.0, omega (arith, more.1)), omega (arith, digits.2, more.2), more.3, is, only)
         where
@@ -118,10 +117,10 @@ module _ (s : List ℕ) (at : ℕ) where
   by_code n rest (form, h, e) q =
       (form, h, e, q ∙ ap (λ u. u ++ rest) (ap number_bytes e ∙ code_bytes form h))
 
-  pub code_none : FormAt s at NoForm → NumberAt s at NoNumber
+  pub code_none : FormAt s at None → NumberAt s at None
   code_none none n rest h k e = let (form, p, q, f) = by_code n rest h e in none form rest p k f
 
-  pub code_found : (form : Form) (end : ℕ) → FormAt s at (Found form end) → NumberAt s at (Value (code form) end)
+  pub code_found : (form : Form) (end : ℕ) → FormAt s at (Some (form, end)) → NumberAt s at (Some (code form, end))
   code_found form end (h, a, b, is, only) = (
     code_number form h,
     a,

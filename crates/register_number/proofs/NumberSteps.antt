@@ -12,7 +12,7 @@ use lib.Seq.{drop-cons}
 use borrow.Author.Tests.{le-leb, lt-leb}
 use Rattle.register.specs.Texts.{decimal}
 use Rattle.register_number.specs.NumberReading.{byte_at, digit_of, NoDigit, DigitsAt}
-use Rattle.register_number.specs.declared.NumberRead.TheVariants.{Value, NoNumber}
+use Rattle.std.specs.Prelude.{Some, None}
 use Rattle.register.proofs.Decimals.{Digits, digits_append, decimal_digits, Leads, decimal_leads, decimal_one, decimal_more}
 use Rattle.register.proofs.Digits.{few_digits}
 
@@ -133,12 +133,12 @@ module _ (most : ℕ) (some : 1 ≤ most) (limited : most ≤ 9) where
         spells = rw (decimal_one d (omega arith)) (digit_first s at d here (omega arith));
       }
 
-  pub zero_first : (s : List ℕ) (at d : ℕ) → d ≡ digit_of (byte_at s at) → d ≡ 0 → DigitsAt s at (10 ^ most) NoNumber
+  pub zero_first : (s : List ℕ) (at d : ℕ) → d ≡ digit_of (byte_at s at) → d ≡ 0 → DigitsAt s at (10 ^ most) None
   zero_first s at d here z v rest a b m e =
       let (c, t, q, l, h) = lead v rest (drop at s) a (omega (arith, bounded v b)) e in
       omega (arith, digit_byte s at d here (omega arith), first_byte s at c t q)
 
-  pub none_first : (s : List ℕ) (at d : ℕ) → d ≡ digit_of (byte_at s at) → 9 < d → DigitsAt s at (10 ^ most) NoNumber
+  pub none_first : (s : List ℕ) (at d : ℕ) → d ≡ digit_of (byte_at s at) → 9 < d → DigitsAt s at (10 ^ most) None
   none_first s at d here h v rest a b m e =
       let (c, t, q, l, u) = lead v rest (drop at s) a (omega (arith, bounded v b)) e in
       no_digit s at d here h c t q (omega arith) u
@@ -166,7 +166,7 @@ module _ (most : ℕ) (some : 1 ≤ most) (limited : most ≤ 9) where
               ∙ sym (rw q (append_assoc (decimal value) ((48 + d) ∷ []) (drop (i + 1) s)));
         }
 
-    pub whole : (d : ℕ) → d ≡ digit_of (byte_at s i) → 9 < d → DigitsAt s at (10 ^ most) (Value value i)
+    pub whole : (d : ℕ) → d ≡ digit_of (byte_at s i) → 9 < d → DigitsAt s at (10 ^ most) (Some (value, i))
     whole d here l =
         let below : value < 10 ^ most = omega (
           arith,
@@ -176,7 +176,7 @@ module _ (most : ℕ) (some : 1 ≤ most) (limited : most ≤ 9) where
         (v.above, below, v.from, v.within, v.spells, no_digit s i d here l)
 
     -- one digit more than there may be
-    pub too_many : (d : ℕ) → d ≡ digit_of (byte_at s i) → d < 10 → most ≤ i - at → DigitsAt s at (10 ^ most) NoNumber
+    pub too_many : (d : ℕ) → d ≡ digit_of (byte_at s i) → d < 10 → most ≤ i - at → DigitsAt s at (10 ^ most) None
     too_many d here l h n rest a b m e =
         let p : List ℕ = decimal value ++ ((48 + d) ∷ []) in
         let f : length p ≤ length (decimal n) = digits_fewer p (decimal n) (drop (i + 1) s) rest

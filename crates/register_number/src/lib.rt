@@ -11,28 +11,14 @@ ghost use Rattle.register_number.specs.NumberReading.{byte_at, digit_of, DigitsA
 use register::{Form, YearSerial};
 use room_write::{decimal_size, put_decimal, put_word};
 
-// What digits say, or the code of a number, and the place after it.
-#[derive(Drop)]
-pub enum NumberRead {
-    Value(u32, usize),
-    NoNumber,
-}
-
-// A number in its form, and the place after it.
-#[derive(Drop)]
-pub enum FormRead {
-    Found(Form, usize),
-    NoForm,
-}
-
-// The byte at a place, or 256, which is no byte, past the end.
+// The byte at a place, or 256, which is no byte, past the end. No Option: each caller holds it against one byte, and none is 256.
 pub fn byte_at(s: &[u8], i: usize) -> u32
     ensures { result ≡ byte_at s.now i }
 {
     if i < s.len() { s[i] as u32 } else { 256 }
 }
 
-// The value of the digit at a place, or 10 where there is none.
+// The value of the digit at a place, or 10 where there is none. No Option: one bound then tells digits from all else.
 fn digit_at(s: &[u8], i: usize) -> u32
     ensures { result ≡ digit_of (byte_at s.now i) }
 {
@@ -44,62 +30,55 @@ fn digit_at(s: &[u8], i: usize) -> u32
     }
 }
 
-// The digits that start at a place: all that stand there, of which there may be so many, the first not 0.
-fn digits_at(s: &[u8], at: usize, most: usize) -> NumberRead
+// The digits that start at a place: all that stand there, of which there may be so many, the first not 0. Answers what they say,
+// and the place behind them; so do the functions below with what they read.
+fn digits_at(s: &[u8], at: usize, most: usize) -> Option<(u32, usize)>
     requires { (at ≤ length s.now) × (1 ≤ most) × (most ≤ 9) }
     ensures { DigitsAt s.now at (10 ^ most) result }
 {
     let first = digit_at(s, at);
     if first == 0 {
-        return NumberRead::NoNumber;
+        return None;
     }
     if first > 9 {
-        return NumberRead::NoNumber;
+        return None;
     }
     let mut value = first;
-    let mut i = at + 1;
     // The bytes from `at` on and before i are the digits of the value, and there are not too many.
-    while i - at < most {
+    for i in at + 1..at + most {
         let digit = digit_at(s, i);
         if digit > 9 {
-            return NumberRead::Value(value, i);
+            return Some((value, i));
         }
         value = value * 10 + digit;
-        i += 1;
     }
-    if digit_at(s, i) < 10 {
-        return NumberRead::NoNumber;
+    if digit_at(s, at + most) < 10 {
+        return None;
     }
-    NumberRead::Value(value, i)
+    Some((value, at + most))
 }
 
 // The form of the number that starts at a place: where a point follows its digits, they are a year, and a serial stands behind.
-fn form_at(s: &[u8], at: usize) -> FormRead
+fn form_at(s: &[u8], at: usize) -> Option<(Form, usize)>
     requires { at ≤ length s.now }
     ensures { FormAt s.now at result }
 {
-    let NumberRead::Value(value, end) = digits_at(s, at, 8) else {
-        return FormRead::NoForm;
-    };
+    let (value, end) = digits_at(s, at, 8)?;
     if byte_at(s, end) != 46 {
-        return FormRead::Found(Form::Plain(value), end);
+        return Some((Form::Plain(value), end));
     }
     if value < 1000 {
-        return FormRead::NoForm;
+        return None;
     }
     if value > 2099 {
-        return FormRead::NoForm;
+        return None;
     }
-    let NumberRead::Value(serial, last) = digits_at(s, end + 1, 4) else {
-        return FormRead::NoForm;
+    let (serial, last) = digits_at(s, end + 1, 4)?;
+    let dated = YearSerial {
+        year: value,
+        serial,
     };
-    FormRead::Found(
-        Form::Year(YearSerial {
-            year: value,
-            serial,
-        }),
-        last,
-    )
+    Some((Form::Year(dated), last))
 }
 
 // The code of a number.
@@ -109,23 +88,17 @@ fn code_of(form: Form) -> u32
 {
     match form {
         Form::Plain(value) => value,
-        Form::Year(dated) => {
-            let year = dated.year;
-            let serial = dated.serial;
-            100000000 + 10000 * year + serial
-        }
+        Form::Year(YearSerial { year, serial }) => 100000000 + 10000 * year + serial,
     }
 }
 
 // The number that starts at a place, by its code.
-pub fn number_at(s: &[u8], at: usize) -> NumberRead
+pub fn number_at(s: &[u8], at: usize) -> Option<(u32, usize)>
     requires { at ≤ length s.now }
     ensures { NumberAt s.now at result }
 {
-    let FormRead::Found(form, end) = form_at(s, at) else {
-        return NumberRead::NoNumber;
-    };
-    NumberRead::Value(code_of(form), end)
+    let (form, end) = form_at(s, at)?;
+    Some((code_of(form), end))
 }
 
 // The form of the number that has a code.
@@ -145,28 +118,17 @@ fn form_of(number: u32) -> Form
 pub fn is_number(number: u32) -> bool
     ensures { Numbered number result }
 {
-    let form = form_of(number);
-    match form {
-        Form::Plain(value) => {
-            if value == 0 {
-                return false;
-            }
-            true
-        }
-        Form::Year(dated) => {
-            let year = dated.year;
-            let serial = dated.serial;
-            if year < 1000 {
-                return false;
-            }
-            if year > 2099 {
-                return false;
-            }
-            if serial == 0 {
-                return false;
-            }
-            true
-        }
+    match form_of(number) {
+        Form::Plain(0) => false,
+        Form::Plain(_) => true,
+        Form::Year(YearSerial { serial: 0, .. }) => false,
+        Form::Year(
+            YearSerial {
+                year: 1000..=2099,
+                ..
+            },
+        ) => true,
+        Form::Year(_) => false,
     }
 }
 
@@ -174,14 +136,9 @@ pub fn is_number(number: u32) -> bool
 pub fn number_size(number: u32) -> usize
     ensures { result ≡ length (number_bytes number) }
 {
-    let form = form_of(number);
-    match form {
+    match form_of(number) {
         Form::Plain(value) => decimal_size(value),
-        Form::Year(dated) => {
-            let year = dated.year;
-            let serial = dated.serial;
-            decimal_size(year) + 1 + decimal_size(serial)
-        }
+        Form::Year(YearSerial { year, serial }) => decimal_size(year) + 1 + decimal_size(serial),
     }
 }
 
@@ -190,12 +147,9 @@ pub fn put_number(room: &mut [u8], at: usize, number: u32) -> usize
     requires { RoomFor room.old at (number_bytes number) }
     ensures { Put room.old at (number_bytes number) result room.new }
 {
-    let form = form_of(number);
-    match form {
+    match form_of(number) {
         Form::Plain(value) => put_decimal(room, at, value),
-        Form::Year(dated) => {
-            let year = dated.year;
-            let serial = dated.serial;
+        Form::Year(YearSerial { year, serial }) => {
             let point_at = put_decimal(room, at, year);
             let serial_at = put_word(room, point_at, b".");
             put_decimal(room, serial_at, serial)

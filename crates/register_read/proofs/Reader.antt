@@ -12,13 +12,11 @@ use Rattle.register.specs.declared.StatementLine.{StatementLine}
 use Rattle.register.specs.declared.ObjectionLine.{ObjectionLine}
 use Rattle.register.specs.declared.Line.{Line}
 use Rattle.register.specs.declared.Line.TheVariants.{Statement, Objection}
-use Rattle.register_line.specs.declared.Got.TheVariants.{Good}
 use Rattle.register.specs.declared.TextFault.{TextFault}
 use Rattle.register.specs.declared.TextFault.TheVariants.{Spoiled}
 use Rattle.register.specs.Register.{Register, Valid, written, bytes, bare, Issued as OnRegister}
+use Rattle.std.specs.Prelude.{Some, Ok, Err}
 use Rattle.register_read.specs.ReadState.{Holds, ReadsTo, StatementTaken, ObjectionTaken}
-use Rattle.register_read.specs.declared.Reading.TheVariants.{Whole}
-use Rattle.register_read.specs.declared.Taken.TheVariants.{AtFault, Kept}
 use Rattle.register.proofs.OneMore.{empty_valid, no_objections, with_statement_lem, valid_statement, written_statement}
 use Rattle.register.proofs.OneMore.{with_objection_lem, valid_objection, written_objection}
 use Rattle.register_read.proofs.Held.{on_register_lem, off_register, stands_already, holds_statement, stands_nowhere}
@@ -58,7 +56,7 @@ module _ (s : List ℕ) (at n m : ℕ) (nums marks objectors targets : List ℕ)
   )
 
   -- all lines are passed
-  pub whole : length s ≤ 65535 → length s ≤ at → ReadsTo s nums marks objectors targets (Whole n m)
+  pub whole : length s ≤ 65535 → length s ≤ at → ReadsTo s nums marks objectors targets (Ok (n, m))
   whole fits l = (
     v.register,
     record {
@@ -97,12 +95,12 @@ module _ (s : List ℕ) (at n m : ℕ) (nums marks objectors targets : List ℕ)
     pub spoiled : at < length s → ((l : Line) → ¬ BeginsWith l (drop at s)) → Refuses s (Spoiled (n + m + 1))
     spoiled l f = reached (λ R rest. (0 < length rest) × ((l : Line) → ¬ BeginsWith l rest)) (omega (arith, length-drop at s), f)
 
-    module _ (st : StatementLine) (next : ℕ) (got : GotAt s at (Good (Statement st) next)) where
+    module _ (st : StatementLine) (next : ℕ) (got : GotAt s at (Some (Statement st, next))) where
       begun : BeginsWith (Statement st) (drop at s)
       begun = (got.0, (drop next s, got.3))
 
       pub statement_fault : (r : TextFault) (nums' marks' : List ℕ)
-          → StatementTaken nums marks n m st nums' marks' (AtFault r) → Refuses s r
+          → StatementTaken nums marks n m st nums' marks' (Err r) → Refuses s r
       statement_fault r nums' marks' (inl (l, e)) =
           subst (Refuses s) (sym e) (reached _ (st, begun, omega (arith, v.holds.objections)))
       statement_fault r nums' marks' (inr (inl (z, l, e))) =
@@ -118,12 +116,12 @@ module _ (s : List ℕ) (at n m : ℕ) (nums marks objectors targets : List ℕ)
             ),
           ))
 
-    module _ (o : ObjectionLine) (next : ℕ) (got : GotAt s at (Good (Objection o) next)) where
+    module _ (o : ObjectionLine) (next : ℕ) (got : GotAt s at (Some (Objection o, next))) where
       begun' : BeginsWith (Objection o) (drop at s)
       begun' = (got.0, (drop next s, got.3))
 
       pub objection_fault : (r : TextFault) (objectors' targets' : List ℕ)
-          → ObjectionTaken nums objectors targets n m o objectors' targets' (AtFault r) → Refuses s r
+          → ObjectionTaken nums objectors targets n m o objectors' targets' (Err r) → Refuses s r
       objection_fault r objectors' targets' (inl (l, e)) =
           subst (Refuses s) (sym e) (reached _ (o, begun', omega (arith, v.holds.objections)))
       objection_fault r objectors' targets' (inr (inl (l, absent, e))) =
@@ -153,7 +151,7 @@ module _ (s : List ℕ) (at n m : ℕ) (nums marks objectors targets : List ℕ)
       ∙ ap (λ u. u ++ drop next s) (sym e)
 
   pub statement_kept : (st : StatementLine) (next : ℕ) (nums' marks' : List ℕ) → 1024 ≤ length nums → 1024 ≤ length marks
-      → GotAt s at (Good (Statement st) next) → StatementTaken nums marks n m st nums' marks' Kept
+      → GotAt s at (Some (Statement st, next)) → StatementTaken nums marks n m st nums' marks' (Ok tt)
       → Inv s next (n + 1) m nums' marks' objectors targets
   statement_kept st next nums' marks' a b got (z, l, absent, p, q) =
       let S : List StatementLine = v.register.statements in
@@ -178,8 +176,8 @@ module _ (s : List ℕ) (at n m : ℕ) (nums marks objectors targets : List ℕ)
       }
 
   pub objection_kept : (o : ObjectionLine) (next : ℕ) (objectors' targets' : List ℕ) → 4096 ≤ length objectors
-      → 4096 ≤ length targets → GotAt s at (Good (Objection o) next)
-      → ObjectionTaken nums objectors targets n m o objectors' targets' Kept
+      → 4096 ≤ length targets → GotAt s at (Some (Objection o, next))
+      → ObjectionTaken nums objectors targets n m o objectors' targets' (Ok tt)
       → Inv s next n (m + 1) nums marks objectors' targets'
   objection_kept o next objectors' targets' a b got (l, y, x, ends, none, p, q) =
       let R : Register = v.register in

@@ -1,1 +1,3 @@
+pub mod ReadAs
 pub mod ReadState
+pub mod RoomsBlank

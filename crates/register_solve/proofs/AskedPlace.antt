@@ -15,7 +15,7 @@ use Rattle.register.proofs.Order.{numbers_counted, marks_counted}
 use Rattle.answer.specs.declared.Refusal.TheVariants.{Asked}
 use Rattle.answer.specs.Answer.{Asks}
 use Rattle.register_solve.specs.SolvedText.{Ready}
-use Rattle.register_solve.proofs.SolvedRooms.{register_handed}
+use Rattle.register_read.proofs.Lent.{register_handed}
 
 module _ (R : Register) (nums marks objectors targets : List ℕ) (made : Made R nums marks objectors targets) where
   pub lists_handed : Handed marks objectors targets

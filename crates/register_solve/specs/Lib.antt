@@ -1,1 +1,3 @@
+pub mod LabelsBlank
+pub mod SolvedAs
 pub mod SolvedText

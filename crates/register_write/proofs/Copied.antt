@@ -1,12 +1,11 @@
 -- The text of the lists that a register makes is the written register, and such lists can be copied; how long the text is, and
 -- that it is put part by part.
 use mathlib.Core.List.{List, map, [], ◌∷◌, ◌++◌}
-use mathlib.Core.Path.{ap₂, refl, ap, sym, subst, ◌≡◌, ◌∙◌}
+use mathlib.Core.Path.{ap₂, refl, ap, sym, ◌≡◌, ◌∙◌}
 use Prim.Native.Nat.{ℕ, ◌+◌, ◌*◌, ◌≤◌, ◌<◌}
 use native.Mathlib.Omega.{arith}
 use lib.ListN.{length, get_or, length-append, drop, length-map}
 use Rattle.register.specs.Lines.{mark_number, line_bytes}
-use Rattle.register.specs.Number.{number_bytes}
 use Rattle.register.specs.declared.Mark.{Mark}
 use Rattle.register.specs.declared.Mark.TheVariants.{Read, Unread}
 use Rattle.register.specs.declared.StatementLine.{StatementLine}
@@ -16,15 +15,18 @@ use Rattle.register.specs.Register.{bytes, Register, numbers, objectors_of, targ
 use Rattle.register.specs.Register.{marks_of}
 use Rattle.register.specs.Register.{written}
 use Rattle.register_read.specs.ReadState.{Made}
+use Rattle.lists.specs.Handed.{Handed}
+use Rattle.lists.specs.declared.in_order.NumberedPairs.{NumberedPairs}
 use Rattle.register.proofs.Order.{number_there, numbers_counted, objectors_counted, register_in_order, marks_counted}
 use Rattle.register.proofs.OneMore.{bytes_append}
 use Rattle.register.specs.Texts.{rows_to}
 use Rattle.room_write.specs.Writing.{Put, RoomFor}
 use Rattle.register_write.specs.Copied.{statement_text, objection_text, objection_bytes, copied, statements_text}
 use Rattle.register_write.specs.Copied.{objections_text, mark_of, statement_bytes, Copyable}
-use Rattle.register.proofs.TextRows.{rows_small, no_rows, row_first, rows_same}
+use Rattle.register.proofs.TextRows.{rows_small, no_rows, row_first, rows_same, rows_longer}
+use Rattle.register.proofs.Number.{number_small}
 use Rattle.room_write.proofs.Writing.{put_start, put_behind}
-use Rattle.register_write.proofs.PutLines.{statement_small, objection_small, objection_length}
+use Rattle.register_write.proofs.PutLines.{statement_small, objection_small, objection_length, statement_length}
 
 -- The parts are not long, and the text is one behind the other.
 module _ (nums : List ℕ) where
@@ -37,21 +39,6 @@ module _ (nums : List ℕ) where
     objections_small =
         rows_small (objection_text nums objectors targets) 34
         (λ k. objection_small (get_or nums (get_or objectors k 0) 0) (get_or nums (get_or targets k 0) 0))
-
-    -- the line of an objection by the places of its ends
-    pub own_text : (k : ℕ) {y x : ℕ} → y ≡ get_or objectors k 0 → x ≡ get_or targets k 0
-        → objection_bytes (get_or nums y 0) (get_or nums x 0) ≡ objection_text nums objectors targets k
-    own_text k p q = ap₂ (λ a b. objection_bytes (get_or nums a 0) (get_or nums b 0)) p q
-
-    pub own_length : (k : ℕ) {y x : ℕ} → y ≡ get_or objectors k 0 → x ≡ get_or targets k 0
-        → length (objection_text nums objectors targets k) ≡ length (number_bytes (get_or nums y 0)) + length
-        (number_bytes (get_or nums x 0)) + 4
-    own_length k {y} {x} p q = sym (ap length (own_text k p q)) ∙ objection_length (get_or nums y 0) (get_or nums x 0)
-
-    pub own_put : (k : ℕ) {y x : ℕ} → y ≡ get_or objectors k 0 → x ≡ get_or targets k 0 → (room : List ℕ) (at : ℕ) {e : ℕ}
-        {r : List ℕ} → Put room at (objection_bytes (get_or nums y 0) (get_or nums x 0)) e r
-        → Put room at (objection_text nums objectors targets k) e r
-    own_put k p q room at {e} {r} = subst (λ u. Put room at u e r) (own_text k p q)
 
     pub copied_length : (marks : List ℕ) → length (copied nums marks objectors targets) ≡ length (statements_text nums marks) +
         length (objections_text nums objectors targets)
@@ -68,6 +55,20 @@ module _ (nums : List ℕ) where
         let then = objections_text nums objectors targets in
         let fits : RoomFor room 0 (first ++ then) = omega (arith, h, copied_length marks, length-append first then) in
         (put_start room (copied nums marks objectors targets) (put_behind room 0 first then fits a b)).1
+
+-- Lists in order, with a number for each mark, can be copied; so can a register that is lent as one value.
+pub handed_copyable : {nums marks objectors targets : List ℕ} → length nums ≡ length marks → Handed marks objectors targets
+    → Copyable nums objectors targets
+handed_copyable numbered handed = record {
+  few_numbers = omega (arith, numbered, handed.few_marks);
+  few_pairs = handed.few_pairs;
+  paired = handed.order.paired;
+  objector = λ k h. omega (arith, handed.order.objector k h, numbered);
+  target = λ k h. omega (arith, handed.order.target k h, numbered);
+}
+
+pub numbered_copyable : (r : NumberedPairs) → Copyable r.numbers.now r.pairs.objectors.now r.pairs.targets.now
+numbered_copyable r = handed_copyable r.numbered r.pairs.handed
 
 -- The lines of a register, one by one.
 pub mark_back : (m : Mark) → mark_of (mark_number m) ≡ m
@@ -131,17 +132,14 @@ module _ (R : Register) where
       rw (made.numbers_are, made.marks_are, made.objectors_are, made.targets_are)
       (own_copied nums marks objectors targets made)
 
-  pub made_copyable : (nums marks objectors targets : List ℕ) → Made R nums marks objectors targets
-      → Copyable nums objectors targets
-  made_copyable nums marks objectors targets made =
-      let order = register_in_order R made.valid in
-      let same : length (marks_of R) ≡ length (numbers R) = marks_counted R made.valid ∙ sym (numbers_counted R) in
-      rw (made.numbers_are, made.objectors_are, made.targets_are) (record {
-        few_numbers = omega (arith, numbers_counted R, made.valid.few_statements);
+  -- what was read of a register is in order, and can be copied
+  pub made_handed : (nums marks objectors targets : List ℕ) → Made R nums marks objectors targets
+      → Handed marks objectors targets
+  made_handed nums marks objectors targets made =
+      rw (made.marks_are, made.objectors_are, made.targets_are) (record {
+        few_marks = omega (arith, marks_counted R made.valid, made.valid.few_statements);
         few_pairs = omega (arith, objectors_counted R made.valid, made.valid.few_objections);
-        paired = order.paired;
-        objector = λ k h. omega (arith, order.objector k h, same);
-        target = λ k h. omega (arith, order.target k h, same);
+        order = register_in_order R made.valid;
       })
 
   -- a mark for each number, and what is told as the size of the copy is that of the text
@@ -149,7 +147,24 @@ module _ (R : Register) where
   made_paired nums marks objectors targets made =
       ap length made.marks_are ∙ marks_counted R made.valid ∙ sym (numbers_counted R) ∙ sym (ap length made.numbers_are)
 
+  pub made_copyable : (nums marks objectors targets : List ℕ) → Made R nums marks objectors targets
+      → Copyable nums objectors targets
+  made_copyable nums marks objectors targets made =
+      handed_copyable (sym (made_paired nums marks objectors targets made)) (made_handed nums marks objectors targets made)
+
   pub made_size : (nums marks objectors targets : List ℕ) → Made R nums marks objectors targets → (size : ℕ)
       → ((marks : List ℕ) → size ≡ length (copied nums marks objectors targets)) → size ≡ length (written R)
   made_size nums marks objectors targets made size is =
       is marks ∙ ap length (copied_written nums marks objectors targets made)
+
+-- what the sizes are added up by
+pub ruleset sizes = (
+  number_small,
+  statement_length,
+  objection_length,
+  no_rows,
+  rows_longer,
+  statements_small,
+  objections_small,
+  copied_length,
+)

@@ -1,22 +1,14 @@
 -- One line of the text: how long it is, and that it is put piece by piece.
 use mathlib.Core.List.{append_assoc, List, [], ◌∷◌, ◌++◌}
-use mathlib.Core.Path.{refl, subst, sym, ◌≡◌}
+use mathlib.Core.Path.{subst, sym, ◌≡◌}
 use Prim.Native.Nat.{ℕ, ◌+◌, ◌≤◌}
 use native.Mathlib.Omega.{arith}
 use lib.ListN.{length, length-append}
-use borrow.Author.Tests.{eq-eqb, ne_eqb}
 use Rattle.register.specs.Number.{number_bytes}
 use Rattle.room_write.specs.Writing.{RoomFor, Put}
 use Rattle.register_write.specs.Copied.{mark_end, statement_bytes, objection_bytes}
 use Rattle.register.proofs.Number.{number_small}
 use Rattle.room_write.proofs.Writing.{put_behind, fits_before}
-
--- the marks' bytes, with the tab before and byte 10 behind
-pub read_end : (mark : ℕ) → mark ≡ 0 → 9 ∷ 82 ∷ 10 ∷ [] ≡ mark_end mark
-read_end mark e = rw (eq-eqb mark 0 e) refl
-
-pub unread_end : (mark : ℕ) → (mark ≡ 0 → ⊥) → 9 ∷ 85 ∷ 10 ∷ [] ≡ mark_end mark
-unread_end mark n = rw (ne_eqb mark 0 n) refl
 
 pub statement_length : (number mark : ℕ) → length (statement_bytes number mark) ≡ length (number_bytes number) + 5
 statement_length number mark = omega (arith, length-append (number_bytes number) (mark_end mark))

@@ -6,6 +6,7 @@ use Rattle.register.specs.declared.Mark.{Mark}
 use Rattle.register.specs.declared.Mark.TheVariants.{Read, Unread}
 use Rattle.register.specs.declared.Line.TheVariants.{Statement, Objection}
 use Rattle.register.specs.Texts.{rows_to}
+use Rattle.lists.specs.declared.in_order.NumberedPairs.{NumberedPairs}
 
 -- the mark of a number: 0 read, else unread
 abbrev pub mark_of : ℕ → Mark
@@ -35,6 +36,19 @@ objections_text nums objectors targets = rows_to (length objectors) (objection_t
 
 unfoldable pub copied : (nums marks objectors targets : List ℕ) → List ℕ
 copied nums marks objectors targets = statements_text nums marks ++ objections_text nums objectors targets
+
+-- the same of a register that is lent as one value
+abbrev pub register_statements : NumberedPairs → List ℕ
+register_statements r = statements_text r.numbers.now r.pairs.marks.now
+
+abbrev pub register_objections : NumberedPairs → List ℕ
+register_objections r = objections_text r.numbers.now r.pairs.objectors.now r.pairs.targets.now
+
+abbrev pub register_objection : NumberedPairs → ℕ → List ℕ
+register_objection r = objection_text r.numbers.now r.pairs.objectors.now r.pairs.targets.now
+
+abbrev pub register_copied : NumberedPairs → List ℕ
+register_copied r = copied r.numbers.now r.pairs.marks.now r.pairs.objectors.now r.pairs.targets.now
 
 -- lists within the limits of 01, whose places are among the numbers
 pub record Copyable (nums objectors targets : List ℕ) : Type 0 where

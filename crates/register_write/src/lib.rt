@@ -5,45 +5,43 @@
 ghost use Rattle.std.specs.Prelude.{List, ◌++◌, ◌≡◌, ◌≤◌, ◌<◌, ℕ, length, drop};
 ghost use Rattle.room_write.specs.Writing.{RoomFor, Put};
 ghost use Rattle.register_write.specs.Copied.{statements_text, Copyable, objections_text, copied, mark_end, statement_bytes};
-ghost use Rattle.register_write.specs.Copied.{objection_text};
+ghost use Rattle.register_write.specs.Copied.{register_statements, register_objections, register_objection, register_copied};
 
-use pair_chain::place;
+use lists::NumberedPairs;
 use register_number::{number_size, put_number};
 use room_write::put_word;
 
 // The size of all statement lines: every mark is one byte, so the marks are not asked for.
+#[tactic(auto, using(crate::proofs::Copied::sizes))]
 pub fn statements_size(numbers: &[u32]) -> usize
     requires { length numbers.now ≤ 1024 }
     ensures { (marks : List ℕ) → result ≡ length (statements_text numbers.now marks) }
 {
-    let mut total: usize = 0;
-    let mut i = 0;
-    // The total is the size of the lines of the first i statements.
-    while i < numbers.len() {
-        total += number_size(numbers[i]) + 5;
-        i += 1;
+    let mut total = 0;
+    // The total is the size of the lines of the numbers passed.
+    for &number in numbers {
+        total += number_size(number) + 5;
     }
     total
 }
 
 // The size of all objection lines.
+#[tactic(auto, using(crate::proofs::Copied::sizes))]
 fn objections_size(numbers: &[u32], objectors: &[u32], targets: &[u32]) -> usize
     requires { Copyable numbers.now objectors.now targets.now }
     ensures { result ≡ length (objections_text numbers.now objectors.now targets.now) }
 {
-    let mut total: usize = 0;
-    let mut k = 0;
-    // The total is the size of the lines of the first k objections.
-    while k < objectors.len() {
-        let y = place(objectors[k]);
-        let x = place(targets[k]);
-        total += number_size(numbers[y]) + number_size(numbers[x]) + 4;
-        k += 1;
+    let mut total = 0;
+    // The total is the size of the lines of the objections passed.
+    for (&y, &x) in objectors.iter().zip(targets) {
+        total += number_size(numbers[y as usize]) + number_size(numbers[x as usize]) + 4;
     }
     total
 }
 
-// How many bytes the text has.
+// How many bytes the text has. It is asked of lists, not of a register as one value: the marks are not needed, and whoever reads
+// a catalogue does not have them at hand.
+#[tactic(auto, using(crate::proofs::Copied::sizes))]
 pub fn register_size(numbers: &[u32], objectors: &[u32], targets: &[u32]) -> usize
     requires { Copyable numbers.now objectors.now targets.now }
     ensures { (marks : List ℕ) → result ≡ length (copied numbers.now marks objectors.now
@@ -75,83 +73,50 @@ fn put_statement(room: &mut [u8], at: usize, number: u32, mark: u8) -> usize
 }
 
 // The line of an objection. The target is read behind the objector's number, so that it need not be kept meanwhile.
-fn put_objection(
-    room: &mut [u8],
-    at: usize,
-    numbers: &[u32],
-    objectors: &[u32],
-    targets: &[u32],
-    k: usize,
-) -> usize
-    requires copyable { Copyable numbers.now objectors.now targets.now × (k < length objectors.now) }
-    requires room_for { RoomFor room.old at (objection_text numbers.now objectors.now targets.now k) }
-    ensures { Put room.old at (objection_text numbers.now objectors.now
-        targets.now k) result room.new }
+fn put_objection(room: &mut [u8], at: usize, register: &NumberedPairs, k: usize) -> usize
+    requires { (k < length register.now.pairs.objectors.now) × RoomFor room.old at (register_objection register.now k) }
+    ensures { Put room.old at (register_objection register.now k) result room.new }
 {
-    let objector = place(objectors[k]);
+    let objector = register.pairs.objectors[k] as usize;
     let objector_at = put_word(room, at, b"O\t");
-    let tab = put_number(room, objector_at, numbers[objector]);
-    let target = place(targets[k]);
+    let tab = put_number(room, objector_at, register.numbers[objector]);
+    let target = register.pairs.targets[k] as usize;
     let target_at = put_word(room, tab, b"\t");
-    let line_end = put_number(room, target_at, numbers[target]);
+    let line_end = put_number(room, target_at, register.numbers[target]);
     put_word(room, line_end, b"\n")
 }
 
 // All statement lines.
-fn put_statements(room: &mut [u8], at: usize, numbers: &[u32], marks: &[u8]) -> usize
-    requires { (length marks.now ≡ length numbers.now) × RoomFor room.old at (statements_text numbers.now
-        marks.now) }
-    ensures { Put room.old at (statements_text numbers.now marks.now) result
-        room.new }
+fn put_statements(room: &mut [u8], at: usize, register: &NumberedPairs) -> usize
+    requires { RoomFor room.old at (register_statements register.now) }
+    ensures { Put room.old at (register_statements register.now) result room.new }
 {
     let mut end = at;
-    let mut i = 0;
     // From `at` to `end` the room holds the lines of the first i statements, and elsewhere it is as it was.
-    while i < numbers.len() {
-        end = put_statement(room, end, numbers[i], marks[i]);
-        i += 1;
+    for (i, &number) in register.numbers.iter().enumerate() {
+        end = put_statement(room, end, number, register.pairs.marks[i]);
     }
     end
 }
 
 // All objection lines.
-fn put_objections(
-    room: &mut [u8],
-    at: usize,
-    numbers: &[u32],
-    objectors: &[u32],
-    targets: &[u32],
-) -> usize
-    requires copyable { Copyable numbers.now objectors.now targets.now }
-    requires room_for { RoomFor room.old at (objections_text numbers.now objectors.now targets.now) }
-    ensures { Put room.old at (objections_text numbers.now objectors.now
-        targets.now) result room.new }
+fn put_objections(room: &mut [u8], at: usize, register: &NumberedPairs) -> usize
+    requires { RoomFor room.old at (register_objections register.now) }
+    ensures { Put room.old at (register_objections register.now) result room.new }
 {
     let mut end = at;
-    let mut k = 0;
     // From `at` to `end` the room holds the lines of the first k objections, and elsewhere it is as it was.
-    while k < objectors.len() {
-        end = put_objection(room, end, numbers, objectors, targets, k);
-        k += 1;
+    for k in 0..register.pairs.objectors.len() {
+        end = put_objection(room, end, register, k);
     }
     end
 }
 
 // Writes the text at the start of a room that is long enough.
-pub fn put_register(
-    room: &mut [u8],
-    numbers: &[u32],
-    marks: &[u8],
-    objectors: &[u32],
-    targets: &[u32],
-)
-    requires copyable { Copyable numbers.now objectors.now targets.now }
-    requires marks_len { (length marks.now ≡ length numbers.now)
-        × (length (copied numbers.now marks.now objectors.now targets.now) ≤ length room.old) }
-    ensures { room.new ≡ copied numbers.now marks.now objectors.now
-        targets.now ++ drop (length (copied numbers.now marks.now objectors.now
-        targets.now)) room.old }
+pub fn put_register(room: &mut [u8], register: &NumberedPairs)
+    requires { length (register_copied register.now) ≤ length room.old }
+    ensures { room.new ≡ register_copied register.now ++ drop (length (register_copied register.now)) room.old }
 {
-    let end = put_statements(room, 0, numbers, marks);
-    put_objections(room, end, numbers, objectors, targets);
+    let end = put_statements(room, 0, register);
+    put_objections(room, end, register);
 }

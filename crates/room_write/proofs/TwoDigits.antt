@@ -6,6 +6,8 @@ use native.Mathlib.Omega.{arith}
 use lib.ListN.{length, length-append}
 use Rattle.register.specs.Texts.{decimal}
 use Rattle.register.proofs.Decimals.{decimal_tenth, decimal_one}
+use Rattle.register.proofs.Digits.{one_digit, digit_more, ten_digits}
+use Rattle.room_write.proofs.Writing.{put_one, put_more}
 use Rattle.room_write.specs.Writing.{two_digits}
 
 -- two digits at once
@@ -27,3 +29,16 @@ decimal_hundredth n h l =
 
 pub digits_more : (n : ℕ) → 100 ≤ n → n < 10 ^ 10 → length (decimal n) ≡ length (decimal (n / 100)) + 2
 digits_more n h l = ap length (decimal_hundredth n h l) ∙ length-append (decimal (n / 100)) (two_digits (n % 100))
+
+-- what putting and counting digits is proved by
+pub ruleset digits = (
+  one_digit,
+  digit_more,
+  ten_digits,
+  decimal_one,
+  decimal_two,
+  decimal_hundredth,
+  digits_more,
+  put_one,
+  put_more,
+)

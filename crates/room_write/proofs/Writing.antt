@@ -1,12 +1,12 @@
 -- Bytes put into a room: behind bytes that were put, more bytes are put as if all were put at once.
 use mathlib.Core.List.{List, append_assoc, [], ◌∷◌, ◌++◌}
 use mathlib.Core.Path.{ap, sym, refl, ◌≡◌, ◌∙◌}
-use Prim.Native.Nat.{ℕ, suc, ◌+◌, ◌≤◌, ◌<◌}
+use Prim.Native.Nat.{ℕ, suc, ◌+◌, ◌<◌}
 use native.Mathlib.Nat.{add-zero}
 use native.Mathlib.Numerals.{add-one}
 use native.Mathlib.Omega.{arith}
 use lib.ListN.{length, take, length-append, drop, take-append-drop, set, get_or}
-use lib.Seq.{length-take-le, take_at, drop-append-add, drop-drop, drop-cons, set_at, take-suc, take_all}
+use lib.Seq.{length-take-le, take_at, drop-append-add, drop-drop, drop-cons, set_at}
 use Rattle.room_write.specs.Writing.{RoomFor, room_with, Put}
 
 -- what stands in a written room up to the end of the bytes
@@ -55,18 +55,6 @@ put_one room at b h = record { ends = refl; is = stored }
         ap (λ l. set l at b) (sym (take-append-drop at room) ∙ ap (λ u. take at room ++ u) (drop-cons room at 0 h))
         ∙ set_at (take at room) (get_or room at 0) (drop (suc at) room) b at (length-take-le at room (omega arith))
         ∙ ap (λ n. take at room ++ (b ∷ drop n room)) (sym (add-one at))
-
--- One byte of a word more, and the whole word.
-module _ (room : List ℕ) (at : ℕ) (word : List ℕ) (fits : RoomFor room at word) (i end : ℕ) (room' : List ℕ)
-    (put : Put room at (take i word) end room') where
-  pub put_next : i < length word → end < length room' → Put room at (take (i + 1) word) (end + 1)
-      (set room' end (get_or word i 0))
-  put_next h k =
-      rw (add-one, take-suc word i 0 h) (put_more room at (take i word) (omega (arith, length-take-le i word (omega arith)))
-      (get_or word i 0 ∷ []) put (put_one room' end (get_or word i 0) k))
-
-  pub put_all : length word ≤ i → Put room at word end room'
-  put_all h = rw (take_all i word h) at put
 
 -- Two pieces, one behind the other.
 module _ (room : List ℕ) (at : ℕ) where

@@ -10,6 +10,7 @@ ghost use Rattle.register.specs.Texts.{decimal};
 ghost use Rattle.room_write.specs.Writing.{RoomFor, Put, two_digits};
 
 // How many digits a number has.
+#[tactic(auto, using(crate::proofs::TwoDigits::digits))]
 pub fn decimal_size(number: u32) -> usize
     ensures { result ≡ length (decimal number) }
 {
@@ -28,14 +29,8 @@ pub fn put_word(room: &mut [u8], at: usize, word: &[u8]) -> usize
     requires { RoomFor room.old at word.now }
     ensures { Put room.old at word.now result room.new }
 {
-    let mut end = at;
-    let mut i = 0;
-    // From `at` to `end` the room holds the first i bytes of the word, and elsewhere it is as it was.
-    while i < word.len() {
-        room[end] = word[i];
-        end += 1;
-        i += 1;
-    }
+    let end = at + word.len();
+    room[at..end].copy_from_slice(word);
     end
 }
 
@@ -50,6 +45,7 @@ fn put_digits(room: &mut [u8], at: usize, number: u32) -> usize
 }
 
 // A number in decimals: those of a hundredth first, and then the last two.
+#[tactic(auto, using(crate::proofs::TwoDigits::digits))]
 pub fn put_decimal(room: &mut [u8], at: usize, number: u32) -> usize
     requires { RoomFor room.old at (decimal number) }
     ensures { Put room.old at (decimal number) result room.new }

@@ -14,16 +14,7 @@ fn spare_clear(sheet: &[u8], n: usize) -> bool
     requires { length sheet.now ≤ 256 }
     ensures { Decides (Spare n sheet.now) result }
 {
-    let end = 4 * sheet.len();
-    let mut x = n;
-    // No bit is set for the places from n on and before x.
-    while x < end {
-        if code_at(sheet, x) != 0 {
-            return false;
-        }
-        x += 1;
-    }
-    true
+    (n..4 * sheet.len()).all(|x| code_at(sheet, x) == 0)
 }
 
 // Whether the totals are the counts, as far as they are handed over.
@@ -31,18 +22,10 @@ fn own_totals(counts: &[u32], totals: &[u32]) -> bool
     requires { codes ≤ length counts.now }
     ensures { Decides (Own counts.now totals.now) result }
 {
-    let mut c = 0;
-    // The first c totals, as far as they are handed over, are the counts.
-    while c < 3 {
-        if c >= totals.len() {
-            return true;
-        }
-        if totals[c] != counts[c] {
-            return false;
-        }
-        c += 1;
-    }
-    true
+    counts[..3]
+        .iter()
+        .zip(totals)
+        .all(|(count, total)| count == total)
 }
 
 // Whether this is a sheet of n statements, with its own totals beside it.
@@ -56,10 +39,6 @@ pub fn is_sound(sheet: &[u8], totals: &[u32], n: usize) -> bool
     if !spare_clear(sheet, n) {
         return false;
     }
-    let mut counts = [0u32; 4];
-    tally(sheet, n, &mut counts);
-    if counts[3] != 0 {
-        return false;
-    }
-    own_totals(&counts, totals)
+    let counts = tally(sheet, n);
+    counts[3] == 0 && own_totals(&counts, totals)
 }

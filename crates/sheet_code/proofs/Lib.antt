@@ -1,4 +1,3 @@
 pub mod CodeSet
 pub mod SheetLaws
-pub mod SheetSteps
 pub mod Totals

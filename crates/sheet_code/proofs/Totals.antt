@@ -1,6 +1,6 @@
 -- Totals are counts: one statement more, no more than the statements, and none of a code that no statement has.
 use mathlib.Core.Bool.{cond, false}
-use mathlib.Core.List.{List}
+use mathlib.Core.List.{List, [], ◌∷◌}
 use mathlib.Core.Path.{refl, ap, sym, subst⁻¹, ◌≡◌, ◌∙◌}
 use Prim.Native.Nat.{ℕ, suc, zero, ◌+◌, ◌≤◌, ◌<◌}
 use native.Mathlib.Decide.{ℕ_discrete}
@@ -12,8 +12,6 @@ use lib.Seq.{get_or-set_same, get_or-set_other}
 use borrow.Author.Tests.{eq-eqb, ne_eqb}
 use Rattle.game.specs.Book.{count}
 use Rattle.game.proofs.Count.{count_le, count_strict}
-use Rattle.answer.specs.Answer.{Begins}
-use Rattle.answer.proofs.Rooms.{begins_more, begins_none}
 use Rattle.sheet.specs.Sheet.{total, code_at, codes}
 use Rattle.sheet_code.specs.SheetParts.{Tallied}
 use Rattle.sheet.proofs.Codes.{code_small}
@@ -40,7 +38,13 @@ module _ (sheet : List ℕ) where
   unfolding total
   total_few n c = count_le n (λ x. eqb (code_at sheet x) c)
 
-  -- one more statement is counted
+  -- no statement is counted, and one more
+  pub nothing_tallied : Tallied sheet 0 (0 ∷ 0 ∷ 0 ∷ 0 ∷ [])
+  nothing_tallied zero h = sym (total_none 0)
+  nothing_tallied (suc zero) h = sym (total_none 1)
+  nothing_tallied (suc (suc zero)) h = sym (total_none 2)
+  nothing_tallied (suc (suc (suc c))) h = let last : c ≡ 0 = omega arith in rw last (sym (total_none 3))
+
   pub tallied_more : (x : ℕ) (counts : List ℕ) → length counts ≡ 4 → Tallied sheet x counts
       → Tallied sheet (x + 1) (set counts (code_at sheet x) (get_or counts (code_at sheet x) 0 + 1))
   tallied_more x counts four tallied c h = go (ℕ_discrete c (code_at sheet x))
@@ -77,25 +81,3 @@ module _ (sheet : List ℕ) where
   used_none (suc n) f =
       ap (λ (m : ℕ). total sheet m 3) (sym (add-one n)) ∙ total_other n 3 (λ e. omega (arith, e, f n (omega arith)))
       ∙ used_none n (λ x h. f x (omega arith))
-
--- three counts are stored in the order of the codes
-pub totals_written : (sheet counts room : List ℕ) (n : ℕ) → Tallied sheet n counts → codes ≤ length room
-    → Begins codes (λ c e. e ≡ total sheet n c) room (set (set (set room 0 (get_or counts 0 0)) 1 (get_or counts 1 0)) 2
-    (get_or counts 2 0))
-totals_written sheet counts room n tallied h = three
-  where
-    entry : ℕ → ℕ → Type 0
-    entry c e = e ≡ total sheet n c
-
-    first : List ℕ
-    first = set room 0 (get_or counts 0 0)
-
-    one : Begins 1 entry room first
-    one = begins_more entry room 0 room (get_or counts 0 0) (begins_none entry room) (omega arith) (tallied 0 (omega arith))
-
-    two : Begins 2 entry room (set first 1 (get_or counts 1 0))
-    two = begins_more entry room 1 first (get_or counts 1 0) one (omega arith) (tallied 1 (omega arith))
-
-    three : Begins 3 entry room (set (set first 1 (get_or counts 1 0)) 2 (get_or counts 2 0))
-    three =
-        begins_more entry room 2 (set first 1 (get_or counts 1 0)) (get_or counts 2 0) two (omega arith) (tallied 2 (omega arith))

@@ -2,15 +2,9 @@
 // are counted. Whether a sheet is sound is left to `sheet_check`, and a sheet is made and updated in `sheet_fill`.
 #![tactic(auto)]
 
-ghost use Rattle.std.specs.Prelude.{◌≡◌, ◌/◌, ◌<◌, ◌*◌, ◌≤◌, ℕ, length, get_or};
+ghost use Rattle.std.specs.Prelude.{◌≡◌, ◌/◌, ◌<◌, ◌*◌, ◌≤◌, length};
 ghost use Rattle.sheet.specs.Sheet.{code_at};
 ghost use Rattle.sheet_code.specs.SheetParts.{CodeSet, Tallied};
-
-fn wide(code: u8) -> usize
-    ensures { result ≡ code }
-{
-    code as usize
-}
 
 // The code of the statement x.
 pub fn code_at(sheet: &[u8], x: usize) -> u8
@@ -31,17 +25,16 @@ pub fn set_code(sheet: &mut [u8], x: usize, code: u8)
     sheet[at] = (sheet[at] & !mask) | (code << shift);
 }
 
-// Counts the statements that have each code, 3 too, which tells whether the sheet has one.
-pub fn tally(sheet: &[u8], n: usize, counts: &mut [u32])
-    requires n_bound { (n ≤ 1024) × (n ≤ 4 * length sheet.now) }
-    requires counts_len { (length counts.old ≡ 4) × ((c : ℕ) → c < 4 → get_or counts.old c 0 ≡ 0) }
-    ensures { Tallied sheet.now n counts.new }
+// How many statements have each code, 3 too, which tells whether the sheet has one.
+#[tactic(auto, using(sheet::proofs::Codes::code_small, crate::proofs::Totals::total_few))]
+pub fn tally(sheet: &[u8], n: usize) -> [u32; 4]
+    requires { (n ≤ 1024) × (n ≤ 4 * length sheet.now) }
+    ensures { Tallied sheet.now n result }
 {
-    let mut x = 0;
+    let mut counts = [0; 4];
     // For each code, `counts` has how many of the first x statements have it.
-    while x < n {
-        let code = wide(code_at(sheet, x));
-        counts[code] += 1;
-        x += 1;
+    for x in 0..n {
+        counts[usize::from(code_at(sheet, x))] += 1;
     }
+    counts
 }

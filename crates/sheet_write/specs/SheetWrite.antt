@@ -2,7 +2,7 @@
 use Rattle.std.specs.Prelude.{List, ℕ}
 use Rattle.game.specs.Book.{Book}
 use Rattle.answer.specs.Answer.{Promised, Short}
-use Rattle.answer.specs.declared.Answer.{Answer}
+use Rattle.answer.specs.Answer.{Answer}
 use Rattle.promises.specs.SheetCalls.{SheetShort, SheetIn, UpdateRefused, UpdatedIn}
 
 -- Not for callers: the promises of one book.

@@ -9,35 +9,35 @@ ghost use Rattle.sheet_write.specs.SheetWrite.{SheetWritten, SheetUpdated};
 
 use answer::{Answer, Refusal};
 
-// Writes the sheet of n statements and its totals, if there is room for both.
-pub fn fresh_rooms(labels: &[u8], n: usize, sheet: &mut [u8], totals: &mut [u32]) -> Answer
-    requires { (n ≤ 1024) × (n ≤ length labels.now) × ((B : Book) × LabelsOf B n labels.now) }
-    ensures { (B : Book) → LabelsOf B n labels.now → SheetWritten B (sheet.old, totals.old) result
+// Writes the sheet of the statements with these labels, and its totals, if there is room for both.
+pub fn fresh_rooms(labels: &[u8], sheet: &mut [u8], totals: &mut [u32]) -> Answer
+    requires { (length labels.now ≤ 1024) × ((B : Book) × LabelsOf B (length labels.now) labels.now) }
+    ensures { (B : Book) → LabelsOf B (length labels.now) labels.now → SheetWritten B (sheet.old, totals.old) result
         (sheet.new, totals.new) }
 {
-    let size = (n + 3) / 4;
+    let size = (labels.len() + 3) / 4;
     if sheet.len() < size {
-        return Answer::Refused(Refusal::Room);
+        return Err(Refusal::Room);
     }
     if totals.len() < 3 {
-        return Answer::Refused(Refusal::Room);
+        return Err(Refusal::Room);
     }
-    sheet_fill::fresh(labels, n, &mut sheet[..size], totals);
-    Answer::Given(size as u32)
+    sheet_fill::fresh(labels, &mut sheet[..size], totals);
+    Ok(size as u32)
 }
 
-// Updates the sheet of n statements and its totals, if that is what the rooms hold.
-pub fn update_rooms(labels: &[u8], n: usize, sheet: &mut [u8], totals: &mut [u32]) -> Answer
-    requires { (n ≤ 1024) × (n ≤ length labels.now) × ((B : Book) × LabelsOf B n labels.now) }
-    ensures { (B : Book) → LabelsOf B n labels.now → SheetUpdated B (sheet.old, totals.old) result
+// Updates the sheet of the statements with these labels, and its totals, if that is what the rooms hold.
+pub fn update_rooms(labels: &[u8], sheet: &mut [u8], totals: &mut [u32]) -> Answer
+    requires { (length labels.now ≤ 1024) × ((B : Book) × LabelsOf B (length labels.now) labels.now) }
+    ensures { (B : Book) → LabelsOf B (length labels.now) labels.now → SheetUpdated B (sheet.old, totals.old) result
         (sheet.new, totals.new) }
 {
-    if !sheet_check::is_sound(sheet, totals, n) {
-        return Answer::Refused(Refusal::Sheet);
+    if !sheet_check::is_sound(sheet, totals, labels.len()) {
+        return Err(Refusal::Sheet);
     }
     if totals.len() < 3 {
-        return Answer::Refused(Refusal::Room);
+        return Err(Refusal::Room);
     }
-    sheet_fill::update(labels, n, sheet, totals);
-    Answer::Given(sheet.len() as u32)
+    sheet_fill::update(labels, sheet, totals);
+    Ok(sheet.len() as u32)
 }

@@ -2,5 +2,5 @@
 use mathlib.Core.Path.{refl}
 use Rattle.answer_number.proofs.in_c.Goals as goal
 
-pub returns-in-Refused : goal.returns-in-Refused
-returns-in-Refused c = rw (c.in-Refused.is, c.refusal_number.ensures, c.refusal_place.ensures) refl
+pub returns-in-Err : goal.returns-in-Err
+returns-in-Err c = rw (c.in-Err.is, c.refusal_number.ensures, c.refusal_place.ensures) refl

@@ -6,12 +6,13 @@ use Rattle.argument_find.proofs.argument.Goals as goal
 
 pub returns-then-room-n : goal.returns-then-room-n
 returns-then-room-n c =
-    lined_short _ _ _ _ _ c.requires.0 _ _ c.requires.1 c.turns-after.ensures _ _ c.wide-n.ensures (omega arith)
+    lined_short _ _ _ _ _ c.args.labelled.now.pairs.handed c.requires.0 _ _ c.requires.1 c.turns-after.ensures _ _
+    c.from-n.ensures (omega arith)
 
-pub chain-requires-clause-by_index_2 : goal.chain-requires-clause-by_index_2
-chain-requires-clause-by_index_2 c = λ x. all_zero 1024 x
+pub chain-requires-clause-empty : goal.chain-requires-clause-empty
+chain-requires-clause-empty c = λ x. all_zero 1024 x
 
 pub returns : goal.returns
 returns c =
-    lined_written _ _ _ _ _ c.requires.0 _ _ c.requires.1 c.turns-after.ensures _ _ _ c.wide-n.ensures c.if-room-n.false
-    c.write.ensures
+    lined_written _ _ _ _ _ c.args.labelled.now.pairs.handed c.requires.0 _ _ c.requires.1 c.turns-after.ensures _ _ _
+    c.from-n.ensures c.if-room-n.false c.write.ensures

@@ -1,34 +1,24 @@
--- `write_argument` refuses in 01's order; the line is written by places, and then told by numbers.
+-- `write_argument` has the line written by places, and then told by numbers.
 use native.Mathlib.Omega.{arith}
-use Rattle.register_solve.proofs.AskedPlace.{counted, ready_settled}
-use Rattle.call_argument.proofs.NumberGiven.{line_few, places_listed, line_given}
+use Rattle.call_argument.proofs.LineLent.{line_few, places_listed, line_given}
+use Rattle.std.proofs.Common.{rules}
 use Rattle.call_argument.proofs.write_argument.Goals as goal
 
-pub argument-n-requires : goal.argument-n-requires
-argument-n-requires c = (
-  ready_settled _ _ _ _ _ _ _ c.requires.1,
-  omega (
-    arith,
-    c.if-x-statements.false,
-    counted _ _ _ _ _
-        c.requires.1.made,
-  ),
-)
-
 pub renumber-requires : goal.renumber-requires
-renumber-requires c = (
-  c.if-line-n.false,
-  places_listed _ _ _ _ _ c.requires.1.made _ _ c.find-x.ensures c.if-x-statements.false _ _ _ c.argument-n.ensures
-      c.argument-n.auto.room c.if-line-n.false,
+renumber-requires c = λ k h. omega (
+  arith,
+  c.args.register.now.numbered,
+  places_listed _ _ _ _ _ _ _ c.argument-n.ensures (omega (arith, c.argument-n.auto.room))
+      (search rules) k h,
 )
 
 pub overflow_cast-result : goal.overflow_cast-result
 overflow_cast-result c = omega (
   arith,
-  line_few _ _ _ _ _ c.requires.1.made _ _ c.find-x.ensures c.if-x-statements.false _ _ _ c.argument-n.ensures
-      c.argument-n.auto.room,
+  line_few _ _ _ _ _ _ _ c.argument-n.ensures (search rules)
+      c.args.register.now.labelled.pairs.handed.few_marks,
 )
 
 pub returns : goal.returns
-returns c = λ R ready. line_given R _ _ _ _ ready.made _ _ c.find-x.ensures c.if-x-statements.false _ _ _ c.argument-n.ensures
-    c.argument-n.auto.room c.if-line-n.false _ c.renumber.ensures
+returns c = λ R ready. line_given c.args.register.now _ _ _ _ c.argument-n.ensures (omega (arith, c.argument-n.auto.room)) _
+    (search rules) (search rules) R ready _ c.renumber.ensures

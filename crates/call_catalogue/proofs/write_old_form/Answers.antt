@@ -12,8 +12,9 @@ pub returns-then-room-size : goal.returns-then-room-size
 returns-then-room-size c = λ R made short. too_long (written R) c.args.room.now
     (omega (arith, c.if-room-size.true, made_size R _ _ _ _ made c.register_size-size.result c.register_size-size.ensures))
 
-pub put_register-requires-clause-copyable : goal.put_register-requires-clause-copyable
-put_register-requires-clause-copyable c = made_copyable c.requires.0 _ _ _ _ c.requires.1
+pub put_register-requires : goal.put_register-requires
+put_register-requires c =
+    omega (arith, c.if-room-size.false, c.register_size-size.ensures c.args.register.now.pairs.marks.now)
 
 pub overflow_cast-result : goal.overflow_cast-result
 overflow_cast-result c = omega (

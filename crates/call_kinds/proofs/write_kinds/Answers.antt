@@ -6,9 +6,8 @@ use Rattle.call_kinds.proofs.write_kinds.Goals as goal
 
 pub loop-k-preserved : goal.loop-k-preserved
 loop-k-preserved c = (
-  omega arith,
-  begins_more _ _ _ _ _ c.loop-k.invariant.1 (omega (arith, c.requires.objectors_in_bounds.0))
+  begins_more _ _ _ _ _ c.loop-k.invariant.0 (omega (arith, c.requires.rooms.0))
       (_, (c.kind_at-kind.result, c.kind_at-kind.ensures, refl), c.kind_number.ensures),
-  begins_more _ _ _ _ _ c.loop-k.invariant.2 (omega (arith, c.requires.objectors_in_bounds.1))
+  begins_more _ _ _ _ _ c.loop-k.invariant.1 (omega (arith, c.requires.rooms.1))
       (_, (c.kind_at-kind.result, c.kind_at-kind.ensures, refl), c.kind_length.ensures),
 )

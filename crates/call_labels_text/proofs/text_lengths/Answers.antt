@@ -1,6 +1,13 @@
--- `text_lengths` hands the beginnings of the rooms that reading filled to the solver.
-use Rattle.register_solve.proofs.SolvedRooms.{rooms_handed}
+-- `text_lengths` hands the lists that the reader answers to the solver.
+use mathlib.Core.Path.{◌≡◌}
+use native.Mathlib.Omega.{arith}
+use Rattle.std.specs.Prelude.{Ok}
+use Rattle.game.specs.Account.{account_length}
+use Rattle.call_labels_text.proofs.TextWritten.{written_text}
 use Rattle.call_labels_text.proofs.text_lengths.Goals as goal
 
-pub write_lengths-requires : goal.write_lengths-requires
-write_lengths-requires c = rooms_handed _ _ _ _ _ _ _ (rw c.in-Whole.is at c.read-reading.ensures)
+pub returns : goal.returns
+returns c =
+    let was : c.read_register.result ≡ Ok c.in_ok-pairs.field-0 = grind arith in
+    let read = rw was at c.read_register.ensures in
+    written_text account_length c.args.text.now c.in_ok-pairs.field-0 read.0 read.1 read.2 _ _ _ c.write_lengths.ensures

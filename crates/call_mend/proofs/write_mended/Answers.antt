@@ -1,52 +1,34 @@
 -- `write_mended` asks for both sizes before anything is written.
-use Rattle.call_mend.proofs.MendGiven.{copyable, size_small, report_size_small, room_short, report_room_short}
-use Rattle.call_mend.proofs.MendGiven.{both_written}
 use native.Mathlib.Omega.{arith}
-use Rattle.call_mend.proofs.MendGiven.{copyable, size_small, report_size_small, room_short, report_room_short}
-use Rattle.call_mend.proofs.MendGiven.{both_written}
+use Rattle.call_mend.proofs.MendGiven.{size_small, report_size_small, room_short, report_room_short, both_written}
 use Rattle.call_mend.proofs.write_mended.Goals as goal
 
-pub register_size-size-requires : goal.register_size-size-requires
-register_size-size-requires c = copyable c.requires.0 c.args.numbers.now c.args.marks.now c.args.objectors.now c.args.targets.now
-    c.args.fates.now
-    c.requires.1 c.args.room.now c.args.report.now c.args.report_written.now
-
 pub returns-then-room-size : goal.returns-then-room-size
-returns-then-room-size c = λ ls m. room_short ls c.args.numbers.now c.args.marks.now c.args.objectors.now c.args.targets.now
-    c.args.fates.now m
-    c.args.room.now c.args.report.now c.args.report_written.now c.register_size-size.result c.register_size-size.ensures
-    c.if-room-size.true
+returns-then-room-size c = λ ls m. room_short ls c.args.mended.now m c.args.room.now c.args.report.now
+    c.args.report_written.now c.register_size-size.result c.register_size-size.ensures c.if-room-size.true
 
 pub returns-then-report-report_size : goal.returns-then-report-report_size
-returns-then-report-report_size c = λ ls m. report_room_short ls c.args.numbers.now c.args.marks.now c.args.objectors.now
-    c.args.targets.now
-    c.args.fates.now m c.args.room.now c.args.report.now c.args.report_written.now c.register_size-size.result
-    c.register_size-size.ensures c.report_size-report_size.result c.report_size-report_size.ensures c.if-report-report_size.true
-
-pub put_register-requires-clause-copyable : goal.put_register-requires-clause-copyable
-put_register-requires-clause-copyable c = copyable c.requires.0 c.args.numbers.now c.args.marks.now c.args.objectors.now
-    c.args.targets.now c.args.fates.now
-    c.requires.1 c.args.room.now c.args.report.now c.args.report_written.now
+returns-then-report-report_size c = λ ls m. report_room_short ls c.args.mended.now m c.args.room.now c.args.report.now
+    c.args.report_written.now c.register_size-size.result c.register_size-size.ensures
+    c.report_size-report_size.result c.report_size-report_size.ensures c.if-report-report_size.true
 
 pub overflow_cast-report_written : goal.overflow_cast-report_written
 overflow_cast-report_written c = omega (
   arith,
-  report_size_small c.requires.0 c.args.numbers.now c.args.marks.now c.args.objectors.now c.args.targets.now
-      c.args.fates.now c.requires.1 c.args.room.now c.args.report.now c.args.report_written.now c.register_size-size.result
+  report_size_small c.requires.0 c.args.mended.now c.requires.1 c.args.room.now c.args.report.now c.args.report_written.now
+      c.register_size-size.result
       c.register_size-size.ensures c.report_size-report_size.result c.report_size-report_size.ensures,
 )
 
 pub overflow_cast-result : goal.overflow_cast-result
 overflow_cast-result c = omega (
   arith,
-  size_small c.requires.0 c.args.numbers.now c.args.marks.now c.args.objectors.now c.args.targets.now
-      c.args.fates.now c.requires.1 c.args.room.now c.args.report.now c.args.report_written.now c.register_size-size.result
-      c.register_size-size.ensures,
+  size_small c.requires.0 c.args.mended.now c.requires.1 c.args.room.now c.args.report.now c.args.report_written.now
+      c.register_size-size.result c.register_size-size.ensures,
 )
 
 pub returns : goal.returns
-returns c = λ ls m. both_written ls c.args.numbers.now c.args.marks.now c.args.objectors.now c.args.targets.now c.args.fates.now
-    m c.args.room.now c.args.report.now c.args.report_written.now c.register_size-size.result c.register_size-size.ensures
-    c.report_size-report_size.result c.report_size-report_size.ensures c.if-room-size.false c.if-report-report_size.false _ _
-    c.put_register.ensures
+returns c = λ ls m. both_written ls c.args.mended.now m c.args.room.now c.args.report.now
+    c.args.report_written.now c.register_size-size.result c.register_size-size.ensures c.report_size-report_size.result
+    c.report_size-report_size.ensures c.if-room-size.false c.if-report-report_size.false _ _ c.put_register.ensures
     c.put_report.ensures

@@ -5,7 +5,7 @@ use Rattle.call_number.proofs.WholeNumber.{too_short}
 use Rattle.call_number.proofs.number_text.Goals as goal
 
 pub returns-then-room-size : goal.returns-then-room-size
-returns-then-room-size c = too_short c.args.number c.args.room.now (rw c.if-is_number.true at c.is_number.ensures)
+returns-then-room-size c = too_short c.args.number c.args.room.now (rw c.if-not-is_number.false at c.is_number.ensures)
     (omega (arith, c.if-room-size.true, c.number_size-size.ensures))
 
 pub overflow_cast-result : goal.overflow_cast-result

@@ -1,10 +1,6 @@
 -- `place_objectors` goes over the objectors. The invariant: those passed are places, and the others still numbers.
-use Prim.Native.Nat.{◌-◌}
 use Rattle.catalogue_read.proofs.Passes.{Placing}
 use Rattle.catalogue_read.proofs.place_objectors.Given as goal
 
 abbrev pub invariant-loop-k : goal.invariant-loop-k
-invariant-loop-k l = Placing l.numbers l.n l.m l.initial.objectors l.objectors l.k
-
-abbrev pub decreases-loop-k : goal.decreases-loop-k
-decreases-loop-k l = l.m - l.k
+invariant-loop-k l = Placing l.index.numbers.now l.index.n l.initial.objectors l.objectors l.k

@@ -5,8 +5,8 @@ use Rattle.game.proofs.Exercise.{answers_falls, answers_stands, answers_neither}
 use Rattle.exercise_within.proofs.KnownTable.{fresh_both}
 use Rattle.exercise_ask.proofs.answer.Goals as goal
 
-pub chain-requires-clause-by_index_2 : goal.chain-requires-clause-by_index_2
-chain-requires-clause-by_index_2 c = λ x. all_zero 1024 x
+pub chain-requires-clause-empty : goal.chain-requires-clause-empty
+chain-requires-clause-empty c = λ x. all_zero 1024 x
 
 pub falls_within-requires-clause-known : goal.falls_within-requires-clause-known
 falls_within-requires-clause-known c = fresh_both _

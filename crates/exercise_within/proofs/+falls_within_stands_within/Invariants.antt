@@ -15,16 +15,18 @@ decreases-stands_within l = l.turns
 
 abbrev pub invariant-falls_within-loop-c : goal.invariant-falls_within-loop-c
 invariant-falls_within-loop-c l =
-    Walk l.targets (length l.targets) l.x (Weak l.marks l.objectors l.targets l.turns) l.c
-    × Known (book_of l.marks l.objectors l.targets) l.falls l.stands
+    Walk l.pairs.targets.now (length l.pairs.targets.now) l.x
+    (Weak l.pairs.marks.now l.pairs.objectors.now l.pairs.targets.now l.turns) l.c
+    × Known (book_of l.pairs.marks.now l.pairs.objectors.now l.pairs.targets.now) l.tables.falls l.tables.stands
 
 abbrev pub decreases-falls_within-loop-c : goal.decreases-falls_within-loop-c
 decreases-falls_within-loop-c l = l.c
 
 abbrev pub invariant-stands_within-loop-c : goal.invariant-stands_within-loop-c
 invariant-stands_within-loop-c l =
-    Walk l.targets (length l.targets) l.x (Beaten l.marks l.objectors l.targets l.turns) l.c
-    × Known (book_of l.marks l.objectors l.targets) l.falls l.stands
+    Walk l.pairs.targets.now (length l.pairs.targets.now) l.x
+    (Beaten l.pairs.marks.now l.pairs.objectors.now l.pairs.targets.now l.turns) l.c
+    × Known (book_of l.pairs.marks.now l.pairs.objectors.now l.pairs.targets.now) l.tables.falls l.tables.stands
 
 abbrev pub decreases-stands_within-loop-c : goal.decreases-stands_within-loop-c
 decreases-stands_within-loop-c l = l.c

@@ -1,8 +1,17 @@
 -- `run` takes the places of the queue in turn. The invariant: the queue is in order; at its end nothing is left to label.
+use Rattle.std.proofs.Common.{rules}
 use Rattle.label_queue.proofs.Runs.{finish}
 use Rattle.label_solve.proofs.Agreement.{labelled}
 use Rattle.label_solve.proofs.run.Goals as goal
+use Rattle.label_solve.proofs.run.Goals.{then-work-y-eq1, else-work-y-eq1}
 
-pub returns : goal.returns
-returns c = labelled _ _ _ _ _ c.requires.handed c.loop-h.invariant.0.run.sound
-    (finish _ _ _ c.requires.handed _ _ _ _ _ _ c.loop-h.invariant.0 c.loop-h-test.false)
+pub loop-h-preserved : goal.loop-h-preserved
+loop-h-preserved c =
+    elim c.if-work-y-eq1.branch [
+      | then-work-y-eq1 w ↦ rw (w.work-is, w.t-is) (w.fell_targets-t.ensures.queued, search rules)
+      | else-work-y-eq1 w ↦ rw (w.work-is, w.t-is) (w.stand_targets-t.ensures.queued, search rules)
+    ]
+
+pub returns-clause-labelled : goal.returns-clause-labelled
+returns-clause-labelled c = labelled _ _ _ _ _ c.args.pairs.now.handed c.loop-h.invariant.0.queue_at.run.sound
+    (finish _ _ _ c.args.pairs.now.handed _ _ _ _ _ _ c.loop-h.invariant.0.queue_at c.loop-h-test.false)

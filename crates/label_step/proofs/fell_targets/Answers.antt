@@ -1,68 +1,50 @@
--- `fell-targets` goes along the chain of a standing place. The invariant: what is looked at is the link reached.
+-- `fell_targets` goes along the chain of a standing place. The invariant: what is looked at is the link reached.
 use mathlib.Core.Path.{refl, sym}
-use native.Mathlib.Omega.{arith}
-use lib.ListN.{length-set}
+use Rattle.std.proofs.Common.{rules}
 use Rattle.label_queue.proofs.Runs.{enter, moved, fell_skip, fell_set, queue_room}
-use Rattle.label_queue.proofs.QueueLinks.{target_place}
 use Rattle.label_step.proofs.fell_targets.Goals as goal
 
 pub loop-c-init : goal.loop-c-init
-loop-c-init c = (
-  enter _ _ _ c.requires.handed _ _ _ _ _ _ _ _ _ _ _ _ _ _ c.requires.chains c.requires.queue_at.0.run c.requires.queue_at.1
-      c.requires.queue_at.2 c.wide-y.ensures c.wide-c.ensures,
-  refl,
-  refl,
-  refl,
-)
+loop-c-init c =
+    let entered = enter _ _ _ c.args.pairs.now.handed _ _ _ _ _ _ _ _ _ _ _ _ _ _ c.requires.chains
+    c.requires.queued.0.queue_at.run c.requires.queued.1 c.requires.queued.2 c.from-y.ensures c.from-c.ensures in
+    record {
+      rooms = c.requires.queued.0.rooms;
+      spaces = c.requires.queued.0.spaces;
+      same = (refl, refl, refl, refl);
+      left = refl;
+      run = entered.0;
+      link = entered.1;
+    }
 
-pub loop-c-preserved-then-labels-x-ne0 : goal.loop-c-preserved-then-labels-x-ne0
-loop-c-preserved-then-labels-x-ne0 c = (
-  moved (sym c.wide-c-in-loop-c.ensures)
-      (fell_skip c.requires.handed c.requires.chains c.loop-c.invariant.0.0 c.loop-c.invariant.0.1 c.loop-c-test.true
-      (sym c.place-x.ensures) refl c.if-labels-x-ne0.true),
-  c.loop-c.invariant.1,
-  c.loop-c.invariant.2,
-  c.loop-c.invariant.3,
-)
+pub loop-c-preserved-then-work-x-ne0 : goal.loop-c-preserved-then-work-x-ne0
+loop-c-preserved-then-work-x-ne0 c =
+    let gone = moved (sym c.from-c-in-loop-c.ensures) (fell_skip c.args.pairs.now.handed c.requires.chains
+    c.loop-c.invariant.run c.loop-c.invariant.link c.loop-c-test.true refl refl c.if-work-x-ne0.true) in
+    record {
+      rooms = c.loop-c.invariant.rooms;
+      spaces = c.loop-c.invariant.spaces;
+      same = c.loop-c.invariant.same;
+      left = c.loop-c.invariant.left;
+      run = gone.0;
+      link = gone.1;
+    }
 
-pub bounds-queue-t : goal.bounds-queue-t
-bounds-queue-t c = queue_room c.requires.handed c.requires.chains c.loop-c.invariant.0.0 c.loop-c.invariant.0.1 c.loop-c-test.true
-    (sym c.place-x.ensures) (omega (
-      arith,
-      target_place _ _ _ c.requires.handed _ _ (omega (arith, c.loop-c-test.true, c.loop-c.invariant.0.1.walk.low))
-          c.place-x.ensures,
-      c.loop-c.invariant.1,
-      c.requires.rooms.labels_room,
-    ))
-    (omega (arith, c.loop-c.invariant.3, c.requires.spaces.queue_room)) c.if-labels-x-ne0.false
+pub bounds-work-t : goal.bounds-work-t
+bounds-work-t c = queue_room c.args.pairs.now.handed c.requires.chains c.loop-c.invariant.run c.loop-c.invariant.link
+    c.loop-c-test.true refl (search rules) (search rules) c.if-work-x-ne0.false
 
 pub loop-c-preserved : goal.loop-c-preserved
-loop-c-preserved c = (
-  moved (sym c.wide-c-in-loop-c.ensures)
-      (fell_set c.requires.handed c.requires.chains c.loop-c.invariant.0.0 c.loop-c.invariant.0.1 c.loop-c-test.true
-      (sym c.place-x.ensures) refl (omega (
-        arith,
-        target_place _ _ _ c.requires.handed _ _ (omega (arith, c.loop-c-test.true, c.loop-c.invariant.0.1.walk.low))
-            c.place-x.ensures,
-        c.loop-c.invariant.1,
-        c.requires.rooms.labels_room,
-      )) (omega (
-        arith,
-        target_place _ _ _ c.requires.handed _ _ (omega (arith, c.loop-c-test.true, c.loop-c.invariant.0.1.walk.low))
-            c.place-x.ensures,
-        c.loop-c.invariant.2,
-        c.requires.rooms.lengths_room,
-      ))
-      (queue_room c.requires.handed c.requires.chains c.loop-c.invariant.0.0 c.loop-c.invariant.0.1 c.loop-c-test.true
-      (sym c.place-x.ensures) (omega (
-        arith,
-        target_place _ _ _ c.requires.handed _ _ (omega (arith, c.loop-c-test.true, c.loop-c.invariant.0.1.walk.low))
-            c.place-x.ensures,
-        c.loop-c.invariant.1,
-        c.requires.rooms.labels_room,
-      ))
-      (omega (arith, c.loop-c.invariant.3, c.requires.spaces.queue_room)) c.if-labels-x-ne0.false) c.if-labels-x-ne0.false),
-  simp length-set c.loop-c.invariant.1,
-  simp length-set c.loop-c.invariant.2,
-  simp length-set c.loop-c.invariant.3,
-)
+loop-c-preserved c =
+    let gone = moved (sym c.from-c-in-loop-c.ensures) (fell_set c.args.pairs.now.handed c.requires.chains
+    c.loop-c.invariant.run c.loop-c.invariant.link c.loop-c-test.true refl refl (search rules) (search rules)
+    (queue_room c.args.pairs.now.handed c.requires.chains c.loop-c.invariant.run c.loop-c.invariant.link
+    c.loop-c-test.true refl (search rules) (search rules) c.if-work-x-ne0.false) c.if-work-x-ne0.false) in
+    record {
+      rooms = record { labels_room = search rules; lengths_room = search rules };
+      spaces = record { left_room = search rules; queue_room = search rules };
+      same = c.loop-c.invariant.same;
+      left = c.loop-c.invariant.left;
+      run = gone.0;
+      link = gone.1;
+    }

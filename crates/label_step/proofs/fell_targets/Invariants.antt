@@ -1,16 +1,24 @@
--- `fell-targets` goes along the chain of a standing place. The invariant: what is looked at is the link reached.
+-- `fell_targets` goes along the chain of a standing place. The invariant: what is looked at is the link reached.
 use mathlib.Core.Path.{◌≡◌}
 use Prim.Native.Nat.{◌+◌}
 use lib.ListN.{length}
-use Rattle.label_queue.specs.Queue.{Run}
+use Rattle.label_queue.specs.LabelState.{Rooms}
+use Rattle.label_queue.specs.Queue.{Run, Spaces}
+use Rattle.label_queue.specs.WorkAt.{SameRooms}
 use Rattle.label_queue.proofs.Runs.{Link}
 use Rattle.label_step.proofs.fell_targets.Given as goal
 
 abbrev pub invariant-loop-c : goal.invariant-loop-c
-invariant-loop-c l = (Run l.marks l.objectors l.targets (length l.marks) (l.h + 1) l.t l.y l.c l.k l.labels l.lengths l.left
-    l.queue
-    × Link l.marks l.objectors l.h l.t l.y 1 l.c l.k l.labels l.lengths l.queue) × (length l.labels ≡ length l.initial.labels)
-    × (length l.lengths ≡ length l.initial.lengths) × (length l.queue ≡ length l.initial.queue)
+invariant-loop-c l = record {
+  rooms : Rooms l.pairs.marks.now l.work.labels.now l.work.lengths.now;
+  spaces : Spaces l.pairs.marks.now l.work.left.now l.work.queue.now;
+  same : SameRooms l.initial.work l.work;
+  left : l.work.left.now ≡ l.initial.work.left.now;
+  run : Run l.pairs.marks.now l.pairs.objectors.now l.pairs.targets.now (length l.pairs.marks.now) (l.h + 1) l.t l.y l.c l.k
+      l.work.labels.now l.work.lengths.now l.work.left.now l.work.queue.now;
+  link : Link l.pairs.marks.now l.pairs.objectors.now l.h l.t l.y 1 l.c l.k l.work.labels.now l.work.lengths.now
+      l.work.queue.now;
+}
 
 abbrev pub decreases-loop-c : goal.decreases-loop-c
 decreases-loop-c l = l.c

@@ -1,15 +1,8 @@
 -- `verdict_size` goes by the label.
 use mathlib.Core.Path.{refl}
 use native.Mathlib.Omega.{arith}
-use Rattle.register.proofs.Digits.{ten_digits}
 use Rattle.listing_row.proofs.Said.{said_falls, said_stands, said_open}
 use Rattle.listing_row.proofs.verdict_size.Goals as goal
-
-pub overflow_add-result : goal.overflow_add-result
-overflow_add-result c = omega (arith, ten_digits c.args.turns)
-
-pub overflow_add-result-in-1 : goal.overflow_add-result-in-1
-overflow_add-result-in-1 c = omega (arith, ten_digits c.args.turns)
 
 pub returns-in-2 : goal.returns-in-2
 returns-in-2 c = rw (said_falls c.args.label c.args.turns c.in-2.is) (omega arith)

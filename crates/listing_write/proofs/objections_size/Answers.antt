@@ -1,46 +1,29 @@
--- `objections_size` adds up the rows. The invariant: the total is the size of the rows passed.
-use mathlib.Core.Path.{sym, ap}
-use Prim.Native.Nat.{◌+◌}
+-- `objections_size` adds up the sizes of the rows.
+use mathlib.Core.Path.{◌∙◌}
 use native.Mathlib.Omega.{arith}
 use lib.ListN.{length}
-use Rattle.listing_row.specs.RowsAt.{objection_row_at}
-use Rattle.register.proofs.TextRows.{no_rows, rows_longer}
-use Rattle.listing_write.proofs.ListingParts.{objections_small, objections_all}
 use Rattle.std.proofs.Common.{rules}
+use Rattle.std.proofs.lemmas.Iterator.{YieldsList-from_map, YieldsList-from_range}
+use Rattle.std.proofs.lemmas.Iterator.Consumers.{sum_from_yields_List, fits_from_yields_list}
+use Rattle.listing_row.specs.RegisterRows.{entry_row}
+use Rattle.listing_write.specs.ListingParts.{objection_part}
+use Rattle.listing_write.proofs.ListingParts.{sizes_summed, objections_small}
 use Rattle.listing_write.proofs.objections_size.Goals as goal
 
-pub loop-k-init : goal.loop-k-init
-loop-k-init c = (
-  search rules,
-  sym (ap length (no_rows (objection_row_at c.args.numbers.now c.args.objectors.now c.args.targets.now c.args.labels.now
-      c.args.lengths.now))),
-)
-
-pub overflow_add-total : goal.overflow_add-total
-overflow_add-total c = omega (
-  arith,
-  objections_small c.args.numbers.now c.args.labels.now c.args.lengths.now c.args.objectors.now c.args.targets.now
-      (c.loop-k.k + 1),
-  rows_longer (objection_row_at c.args.numbers.now c.args.objectors.now c.args.targets.now c.args.labels.now
-      c.args.lengths.now) c.loop-k.k,
-  c.entry_size-total.ensures,
-  c.requires.handed.few_pairs,
-)
-
-pub loop-k-preserved : goal.loop-k-preserved
-loop-k-preserved c = (
-  search rules,
-  omega (
-    arith,
-    rows_longer (objection_row_at c.args.numbers.now c.args.objectors.now c.args.targets.now
-        c.args.labels.now c.args.lengths.now) c.loop-k.k,
-    c.entry_size-total.ensures,
-  ),
-)
+pub sum-requires-clause-fits : goal.sum-requires-clause-fits
+sum-requires-clause-fits c = let r = c.args.register.now in let m = length r.labelled.pairs.objectors.now in
+    fits_from_yields_list c.map.result _ (YieldsList-from_map _ (λ k. length (entry_row r k))
+    (YieldsList-from_range 0 m m c.map.ensures.source (omega arith)) c.map.ensures.closure (λ x y q k. search rules)) (omega (
+      arith,
+      sizes_summed (entry_row r) m,
+      objections_small r.numbers.now r.labelled.labels.now r.labelled.lengths.now r.labelled.pairs.objectors.now
+          r.labelled.pairs.targets.now m,
+      r.labelled.pairs.handed.few_pairs,
+    ))
 
 pub returns : goal.returns
-returns c = omega (
-  arith,
-  ap length (objections_all c.args.numbers.now c.args.labels.now c.args.lengths.now c.args.objectors.now
-      c.args.targets.now c.loop-k.k (omega arith)),
-)
+unfolding objection_part
+returns c = let r = c.args.register.now in let m = length r.labelled.pairs.objectors.now in
+    sum_from_yields_List c.map.result _ c.sum.ensures.ran (YieldsList-from_map _ (λ k. length (entry_row r k))
+    (YieldsList-from_range 0 m m c.map.ensures.source (omega arith)) c.map.ensures.closure (λ x y q k. search rules))
+    ∙ sizes_summed (entry_row r) m

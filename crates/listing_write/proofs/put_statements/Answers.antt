@@ -1,50 +1,30 @@
 -- `put_statements` puts row after row. The invariant: the rows passed are in the room.
-use mathlib.Core.Path.{refl, ap, ◌∙◌, subst}
-use Prim.Native.Nat.{◌+◌}
+use mathlib.Core.Path.{refl, subst}
 use native.Mathlib.Omega.{arith}
-use lib.ListN.{length}
 use Rattle.room_write.specs.Writing.{Put}
-use Rattle.listing_row.specs.RowsAt.{statement_row_at}
+use Rattle.register.specs.Texts.{rows_to}
+use Rattle.listing_row.specs.RegisterRows.{place_row}
 use Rattle.room_write.proofs.Writing.{put_none}
-use Rattle.register.proofs.TextRows.{no_rows, rows_longer, rows_fewer}
-use Rattle.room_write.proofs.RowByRow.{row_put}
-use Rattle.listing_write.proofs.ListingParts.{statements_all}
-use Rattle.std.proofs.Common.{rules}
+use Rattle.register.proofs.TextRows.{no_rows}
+use Rattle.room_write.proofs.RowByRow.{row_put, rows_fit, row_fits}
+use Rattle.listing_write.specs.ListingParts.{statement_part}
 use Rattle.listing_write.proofs.put_statements.Goals as goal
 
 pub loop-x-init : goal.loop-x-init
-loop-x-init c = (
-  search rules,
-  search rules,
-  rw (no_rows (statement_row_at c.args.numbers.now c.args.labels.now c.args.lengths.now))
-      (put_none c.args.room.now c.args.at),
-)
+loop-x-init c = rw (no_rows (place_row c.args.register.now)) (put_none c.args.room.now c.args.at)
 
 pub put_statement-end-requires : goal.put_statement-end-requires
-put_statement-end-requires c = omega (
-  arith,
-  c.loop-x.invariant.2.ends,
-  rows_longer (statement_row_at c.args.numbers.now c.args.labels.now c.args.lengths.now) c.loop-x.x,
-  rows_fewer (statement_row_at c.args.numbers.now c.args.labels.now c.args.lengths.now) (c.loop-x.x + 1)
-      (length c.args.numbers.now) (omega arith),
-  ap length (statements_all c.args.numbers.now c.args.labels.now c.args.lengths.now (length c.args.numbers.now) refl),
-)
+unfolding statement_part
+put_statement-end-requires c = row_fits c.args.room.now c.args.at (place_row c.args.register.now) c.loop-x.x _ (omega arith)
+    c.requires c.loop-x.invariant c.loop-x.auto.room
 
 pub loop-x-preserved : goal.loop-x-preserved
-loop-x-preserved c = (
-  search rules,
-  c.put_statement-end.auto.room ∙ c.loop-x.invariant.1,
-  row_put c.args.room.now c.args.at
-      (statement_row_at c.args.numbers.now c.args.labels.now c.args.lengths.now) c.loop-x.x (omega (
-        arith,
-        rows_fewer (statement_row_at c.args.numbers.now c.args.labels.now c.args.lengths.now) (c.loop-x.x + 1)
-            (length c.args.numbers.now) (omega arith),
-        ap length (statements_all c.args.numbers.now c.args.labels.now c.args.lengths.now (length c.args.numbers.now) refl),
-      )) c.loop-x.invariant.2 refl
-      c.put_statement-end.ensures,
-)
+unfolding statement_part
+loop-x-preserved c = row_put c.args.room.now c.args.at (place_row c.args.register.now) c.loop-x.x
+    (rows_fit c.args.room.now c.args.at (place_row c.args.register.now) c.loop-x.x _ (omega arith) c.requires)
+    c.loop-x.invariant refl c.put_statement-end.ensures
 
 pub returns : goal.returns
-returns c = subst (λ u. Put c.args.room.now c.args.at u c.loop-x.end c.loop-x.room)
-    (statements_all c.args.numbers.now c.args.labels.now c.args.lengths.now c.loop-x.x (omega arith))
-    c.loop-x.invariant.2
+unfolding statement_part
+returns c = subst (λ n. Put c.args.room.now c.args.at (rows_to n (place_row c.args.register.now)) c.loop-x.end c.loop-x.room)
+    (omega arith) c.loop-x.invariant

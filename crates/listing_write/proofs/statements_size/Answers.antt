@@ -1,41 +1,29 @@
--- `statements_size` adds up the rows. The invariant: the total is the size of the rows passed.
-use mathlib.Core.Path.{sym, ap}
-use Prim.Native.Nat.{◌+◌}
+-- `statements_size` adds up the sizes of the rows.
+use mathlib.Core.Path.{◌∙◌}
 use native.Mathlib.Omega.{arith}
 use lib.ListN.{length}
-use Rattle.listing_row.specs.RowsAt.{statement_row_at}
-use Rattle.register.proofs.TextRows.{no_rows, rows_longer}
-use Rattle.listing_write.proofs.ListingParts.{statements_small, statements_all}
 use Rattle.std.proofs.Common.{rules}
+use Rattle.std.proofs.lemmas.Iterator.{YieldsList-from_map, YieldsList-from_range}
+use Rattle.std.proofs.lemmas.Iterator.Consumers.{sum_from_yields_List, fits_from_yields_list}
+use Rattle.listing_row.specs.RegisterRows.{place_row}
+use Rattle.listing_write.specs.ListingParts.{statement_part}
+use Rattle.listing_write.proofs.ListingParts.{sizes_summed, statements_small}
 use Rattle.listing_write.proofs.statements_size.Goals as goal
 
-pub loop-x-init : goal.loop-x-init
-loop-x-init c = (
-  search rules,
-  sym (ap length (no_rows (statement_row_at c.args.numbers.now c.args.labels.now
-      c.args.lengths.now))),
-)
-
-pub overflow_add-total : goal.overflow_add-total
-overflow_add-total c = omega (
-  arith,
-  statements_small c.args.numbers.now c.args.labels.now c.args.lengths.now (c.loop-x.x + 1),
-  rows_longer (statement_row_at c.args.numbers.now c.args.labels.now c.args.lengths.now) c.loop-x.x,
-)
-
-pub loop-x-preserved : goal.loop-x-preserved
-loop-x-preserved c = (
-  search rules,
-  omega (
-    arith,
-    rows_longer (statement_row_at c.args.numbers.now c.args.labels.now c.args.lengths.now)
-        c.loop-x.x,
-  ),
-)
+pub sum-requires-clause-fits : goal.sum-requires-clause-fits
+sum-requires-clause-fits c = let r = c.args.register.now in let n = length r.numbers.now in
+    fits_from_yields_list c.map.result _ (YieldsList-from_map _ (λ x. length (place_row r x))
+    (YieldsList-from_range 0 n n c.map.ensures.source (omega arith)) c.map.ensures.closure (λ x y q k. search rules)) (omega (
+      arith,
+      sizes_summed (place_row r) n,
+      statements_small r.numbers.now r.labelled.labels.now r.labelled.lengths.now n,
+      r.numbered,
+      r.labelled.pairs.handed.few_marks,
+    ))
 
 pub returns : goal.returns
-returns c = omega (
-  arith,
-  ap length (statements_all c.args.numbers.now c.args.labels.now c.args.lengths.now c.loop-x.x
-      (omega arith)),
-)
+unfolding statement_part
+returns c = let r = c.args.register.now in let n = length r.numbers.now in
+    sum_from_yields_List c.map.result _ c.sum.ensures.ran (YieldsList-from_map _ (λ x. length (place_row r x))
+    (YieldsList-from_range 0 n n c.map.ensures.source (omega arith)) c.map.ensures.closure (λ x y q k. search rules))
+    ∙ sizes_summed (place_row r) n

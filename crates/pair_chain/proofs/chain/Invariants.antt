@@ -1,12 +1,7 @@
 -- `chain` links each entry to the one before it that names the same place. The invariant: those passed are linked.
-use Rattle.std.proofs.Common.{length, ◌-◌, ◌≡◌, ◌≤◌, get_or}
+use Rattle.std.proofs.Common.{length, get_or}
 use Rattle.pair_chain.specs.Linked.{Linked}
 use Rattle.pair_chain.proofs.chain.Given as goal
 
 abbrev pub invariant-loop-e : goal.invariant-loop-e
-invariant-loop-e l =
-    (l.e ≤ length l.places) × (length l.head ≡ length l.initial.head) × (length l.next ≡ length l.initial.next)
-    × Linked l.places (length l.head) l.e (λ x. get_or l.head x 0) (λ d. get_or l.next d 0)
-
-abbrev pub decreases-loop-e : goal.decreases-loop-e
-decreases-loop-e l = length l.places - l.e
+invariant-loop-e l = Linked l.places (length l.head) l.e (λ x. get_or l.head x 0) (λ d. get_or l.next d 0)

@@ -1,9 +1,6 @@
--- `write_pieces`: the invariant is that no piece passed the end.
-use Rattle.std.proofs.Common.{◌-◌, ◌≤◌}
+-- `write_pieces`: each piece brings the loop nearer to the end.
+use Rattle.std.proofs.Common.{◌-◌, length}
 use Rattle.program_stream.proofs.write_pieces.Given as goal
 
-abbrev pub invariant-loop-start : goal.invariant-loop-start
-invariant-loop-start g l = l.start ≤ l.n
-
 abbrev pub decreases-loop-start : goal.decreases-loop-start
-decreases-loop-start g l = l.n - l.start
+decreases-loop-start g l = length l.bytes - l.start

@@ -4,7 +4,7 @@ use Rattle.register_index.proofs.Index.{Walks}
 use Rattle.register_index.proofs.free_slot.Given as goal
 
 abbrev pub invariant-loop-next : goal.invariant-loop-next
-invariant-loop-next l = Walks l.n l.links l.number l.rest l.node l.next
+invariant-loop-next l = Walks l.index.n l.index.links.now l.number l.rest l.node l.next
 
 abbrev pub decreases-loop-next : goal.decreases-loop-next
-decreases-loop-next l = l.n - l.node
+decreases-loop-next l = l.index.n - l.node

@@ -1,5 +1,8 @@
 -- `digits_at` goes over the digits. The invariant: those passed are the digits of the value, and at most so many.
+use mathlib.Core.Path.{subst, sym, ◌≡◌}
+use Prim.Native.Nat.{◌+◌}
 use native.Mathlib.Omega.{arith}
+use Rattle.register_number.specs.NumberReading.{byte_at, digit_of}
 use Rattle.register_number.proofs.NumberSteps.{begin, turn, whole, too_many, zero_first, none_first}
 use Rattle.register_number.proofs.NumberSteps.{below_last}
 use Rattle.register_number.proofs.digits_at.Goals as goal
@@ -38,5 +41,8 @@ loop-i-preserved c = turn _ (omega arith) (omega arith) _ _ _ _ c.loop-i.invaria
     c.if-digit-gt9.false (omega arith)
 
 pub returns-then-digit_at-lt10 : goal.returns-then-digit_at-lt10
-returns-then-digit_at-lt10 c = too_many c.args.most (omega arith) (omega arith) c.args.s.now _ _ _ c.loop-i.invariant _
-    c.digit_at.ensures c.if-digit_at-lt10.true (omega arith)
+returns-then-digit_at-lt10 c =
+    let end : c.loop-i.i ≡ c.args.at + c.args.most = omega arith in
+    too_many c.args.most (omega arith) (omega arith) c.args.s.now _ _ _ c.loop-i.invariant _
+    (subst (λ i. c.digit_at.result ≡ digit_of (byte_at c.args.s.now i)) (sym end) c.digit_at.ensures)
+    c.if-digit_at-lt10.true (omega arith)

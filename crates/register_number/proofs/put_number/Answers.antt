@@ -11,15 +11,15 @@ pub put_decimal-requires : goal.put_decimal-requires
 put_decimal-requires c = omega (
   arith,
   c.requires,
-  ap length (plain_bytes c.args.number c.form_of-form.result c.form_of-form.ensures _ c.in-Plain.is),
+  ap length (plain_bytes c.args.number c.form_of.result c.form_of.ensures _ c.in-Plain.is),
 )
 
 pub put_decimal-point_at-requires : goal.put_decimal-point_at-requires
 put_decimal-point_at-requires c = omega (
   arith,
   c.requires,
-  ap length (year_bytes c.args.number c.form_of-form.result c.form_of-form.ensures c.in-Year.dated c.in-Year.is),
-  length-append (decimal c.in-Year.dated.year) (46 ∷ decimal c.in-Year.dated.serial),
+  ap length (year_bytes c.args.number c.form_of.result c.form_of.ensures c.in-Year.field-0 c.in-Year.is),
+  length-append (decimal c.in-Year.field-0.year) (46 ∷ decimal c.in-Year.field-0.serial),
 )
 
 pub put_word-serial_at-requires : goal.put_word-serial_at-requires
@@ -27,7 +27,7 @@ put_word-serial_at-requires c = omega (
   arith,
   c.put_decimal-point_at.ensures.ends,
   c.put_decimal-point_at.auto.room,
-  year_room c.args.number c.form_of-form.result c.form_of-form.ensures _ c.in-Year.is c.args.room.now
+  year_room c.args.number c.form_of.result c.form_of.ensures _ c.in-Year.is c.args.room.now
       c.args.at c.requires,
 )
 
@@ -38,14 +38,14 @@ put_decimal-requires-in-Year c = omega (
   c.put_decimal-point_at.auto.room,
   c.put_word-serial_at.ensures.ends,
   c.put_word-serial_at.auto.room,
-  year_room c.args.number c.form_of-form.result c.form_of-form.ensures _ c.in-Year.is c.args.room.now
+  year_room c.args.number c.form_of.result c.form_of.ensures _ c.in-Year.is c.args.room.now
       c.args.at c.requires,
 )
 
 pub returns-in-Plain : goal.returns-in-Plain
-returns-in-Plain c = rw (plain_bytes c.args.number c.form_of-form.result c.form_of-form.ensures _ c.in-Plain.is)
+returns-in-Plain c = rw (plain_bytes c.args.number c.form_of.result c.form_of.ensures _ c.in-Plain.is)
     c.put_decimal.ensures
 
 pub returns-in-Year : goal.returns-in-Year
-returns-in-Year c = year_put c.args.number c.form_of-form.result c.form_of-form.ensures _ c.in-Year.is c.args.room.now
+returns-in-Year c = year_put c.args.number c.form_of.result c.form_of.ensures _ c.in-Year.is c.args.room.now
     c.args.at c.requires c.put_decimal-point_at.ensures c.put_word-serial_at.ensures c.put_decimal-in-Year.ensures

@@ -1,15 +1,12 @@
 -- `solve_text` hands the rooms that reading left on to the solver.
-use Rattle.register_solve.proofs.SolvedRooms.{few, rooms_handed, rooms_solved}
+use Rattle.register_solve.proofs.SolvedRooms.{rooms_handed_lem, rooms_solved}
 use Rattle.register_solve.proofs.solve_text.Goals as goal
 
 pub solve_rooms-requires-clause-handed : goal.solve_rooms-requires-clause-handed
-solve_rooms-requires-clause-handed c = let f = few c.args.text.now c.read-reading.new.numbers c.read-reading.new.marks
-    c.read-reading.new.objectors c.read-reading.new.targets
-    c.in-Whole.n c.in-Whole.m (rw c.in-Whole.is at c.read-reading.ensures) in rooms_handed c.args.text.now
-    c.read-reading.new.numbers c.read-reading.new.marks c.read-reading.new.objectors c.read-reading.new.targets
-    c.in-Whole.n c.in-Whole.m (rw c.in-Whole.is at c.read-reading.ensures)
+solve_rooms-requires-clause-handed c = rooms_handed_lem c.args.text.now c.read.new.numbers c.read.new.marks c.read.new.objectors
+    c.read.new.targets c.in_ok-n.n c.in_ok-n.m (rw c.in_ok-n.was at c.read.ensures)
 
-pub returns-in-Whole : goal.returns-in-Whole
-returns-in-Whole c = rooms_solved c.args.text.now c.read-reading.new.numbers c.read-reading.new.marks c.read-reading.new.objectors
-    c.read-reading.new.targets c.in-Whole.n c.in-Whole.m (rw c.in-Whole.is at c.read-reading.ensures) _ _ _ _
+pub returns : goal.returns
+returns c = rooms_solved c.args.text.now c.read.new.numbers c.read.new.marks c.read.new.objectors
+    c.read.new.targets c.in_ok-n.n c.in_ok-n.m (rw c.in_ok-n.was at c.read.ensures) _ _ _ _
     c.solve_rooms.ensures

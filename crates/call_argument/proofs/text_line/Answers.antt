@@ -1,0 +1,11 @@
+-- `text_line` hands on the register that the solver leaves.
+use mathlib.Core.Path.{◌≡◌}
+use native.Mathlib.Omega.{arith}
+use Rattle.std.specs.Prelude.{Ok}
+use Rattle.call_argument.proofs.text_line.Goals as goal
+
+pub write_argument-requires : goal.write_argument-requires
+write_argument-requires c =
+    let was : c.solve_register.result ≡ Ok c.in_ok-register.register = grind arith in
+    let solved = rw was at c.solve_register.ensures in
+    (solved.0, solved.2)

@@ -1,2 +1,0 @@
-pub mod NumberAnswered
-pub mod PlaceAnswered

@@ -11,7 +11,7 @@ use Rattle.game.specs.Argument.{Argument}
 use Rattle.game.proofs.Argument.{line_bound, line_listed}
 use Rattle.lists.specs.PairsBook.{pairs_book}
 use Rattle.argument_find.specs.ArgumentRoom.{ArgumentIn}
-use Rattle.register.specs.Register.{Register, numbers}
+use Rattle.register.specs.Register.{Register, numbers, Places}
 use Rattle.register_solve.specs.declared.labelled_register.LabelledRegister.{LabelledRegister}
 use Rattle.register_solve.specs.SolvedAs.{ReadyAs}
 use Rattle.register_solve.proofs.AskedPlace.{book_is}
@@ -42,12 +42,12 @@ module _ (marks objectors targets : List ℕ) (x n : ℕ) (room after : List ℕ
 
 -- the line told by numbers, in front of what was beyond it
 module _ (r : LabelledRegister) (x n : ℕ) (room after : List ℕ) (a : ArgumentIn (pairs_book r.labelled.pairs) x room n after)
-    (fits : n ≤ length room) (number : ℕ) (h : x < length r.numbers.now) (is : get_or r.numbers.now x 0 ≡ number) where
-  pub line_given : (R : Register) → ReadyAs R r → (told : List ℕ) → told ≡ map (λ i. get_or r.numbers.now i 0) (take n after)
-      → TextArgumentIn R number room n (told ++ drop n after)
-  line_given R ready told e = (
+    (fits : n ≤ length room) (number : ℕ) where
+  pub line_given : (R : Register) → ReadyAs R r → Places R number x → (told : List ℕ)
+      → told ≡ map (λ i. get_or r.numbers.now i 0) (take n after) → TextArgumentIn R number room n (told ++ drop n after)
+  line_given R ready there told e = (
     x,
-    (omega (arith, ap length ready.made.numbers_are), sym (ap (λ (u : List ℕ). get_or u x 0) ready.made.numbers_are) ∙ is),
+    there,
     (
       a.line,
       subst (λ B. Argument B x a.line) (book_is R _ _ _ _ ready.made) a.is_line,

@@ -1,10 +1,10 @@
 -- From the rows of one statement to what is promised of the register.
 use mathlib.Core.List.{List}
 use mathlib.Core.Logic.{inr}
-use mathlib.Core.Path.{ap, sym, ◌≡◌, ◌∙◌}
-use Prim.Native.Nat.{ℕ, ◌<◌}
+use mathlib.Core.Path.{ap}
+use Prim.Native.Nat.{ℕ}
 use native.Mathlib.Omega.{arith}
-use lib.ListN.{get_or, length, take}
+use lib.ListN.{length, take}
 use Rattle.std.proofs.lemmas.List.{get_or-take}
 use Rattle.reason_find.specs.Ticks.{Chosen}
 use Rattle.register.specs.Register.{Register, Places}
@@ -22,19 +22,13 @@ pub chosen_taken : (marks objectors targets : List ℕ) (x : ℕ) (inside : List
 chosen_taken marks objectors targets x inside chosen k h = rw (get_or-take (length objectors) inside k 0 h) (chosen k h)
 
 pub reason_written : (R : Register) (r : LabelledRegister) → ReadyAs R r → (number x : ℕ)
-    → get_or r.numbers.now x 0 ≡ number → x < length r.numbers.now → (inside : List ℕ)
+    → Places R number x → (inside : List ℕ)
     → Chosen r.labelled.pairs.marks.now r.labelled.pairs.objectors.now r.labelled.pairs.targets.now x inside
     → (room : List ℕ) (a : Answer) (after : List ℕ) → RowsWritten r inside x room a after → ReasonWritten R number room a after
-reason_written R r ready number x there_is l inside chosen room = go
+reason_written R r ready number x there inside chosen room = go
   where
-    there : Places R number x
-    there = (
-      omega (arith, ap length ready.made.numbers_are),
-      sym (ap (λ (u : List ℕ). get_or u x 0) ready.made.numbers_are) ∙ there_is,
-    )
-
     is : IsReason R x (reason_rows r inside x)
-    is = ready_reason R r ready x inside l chosen
+    is = ready_reason R r ready x inside (omega (arith, there.0, ap length ready.made.numbers_are)) chosen
 
     go : (a : Answer) (after : List ℕ) → RowsWritten r inside x room a after → ReasonWritten R number room a after
     go (Err e) after ((short, w), same) =

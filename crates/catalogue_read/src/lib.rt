@@ -127,7 +127,7 @@ fn take_card(
         return Err(TextFault::Statements(line_after(n)));
     }
     let StatementLine { number, mark } = statement;
-    if register_index::look_up(index, number).is_some() {
+    if register_index::look_up_in(index, number).is_some() {
         return Err(TextFault::Issued(line_after(n)));
     }
     if count > 4096 {
@@ -149,7 +149,7 @@ fn place_objectors(index: &NumberIndex, objectors: &mut [u32], targets: &[u32]) 
     // The first k objectors are places; the others are still numbers.
     for k in 0..objectors.len() {
         let x = targets[k] as usize;
-        let Some(y) = register_index::look_up(index, objectors[k]) else {
+        let Some(y) = register_index::look_up_in(index, objectors[k]) else {
             return Err(line_after(x));
         };
         objectors[k] = y as u32;

@@ -7,7 +7,7 @@ ghost use Rattle.std.specs.Prelude.{◌<◌, ◌≤◌, length};
 ghost use Rattle.game.specs.Exercise.{Answered};
 ghost use Rattle.lists.specs.PairsBook.{pairs_book};
 
-use exercise_within::{Entry, Tables, falls_within, stands_within};
+use exercise_within::{falls_within, stands_within};
 use lists::Pairs;
 use pair_chain::{Links, chain};
 
@@ -19,19 +19,17 @@ pub fn answer(pairs: &Pairs, x: usize, turns: usize) -> u32
 {
     let mut head = [0u16; 1024];
     let mut next = [0u16; 4096];
-    let mut tables = Tables {
-        falls: [Entry::Unknown; 7168],
-        stands: [Entry::Unknown; 7168],
-    };
+    let mut falls = [0u8; 7168];
+    let mut stands = [0u8; 7168];
     chain(pairs.targets, &mut head, &mut next);
     let links = Links {
         head: &head,
         next: &next,
     };
-    if falls_within(pairs, &links, x, turns, &mut tables) {
+    if falls_within(pairs, &links, x, turns, &mut falls, &mut stands) {
         return 2;
     }
-    if stands_within(pairs, &links, x, turns, &mut tables) {
+    if stands_within(pairs, &links, x, turns, &mut falls, &mut stands) {
         return 1;
     }
     0

@@ -10,8 +10,6 @@ use Rattle.game.specs.Rules.{falls_within, stands_within}
 use Rattle.lists.specs.Handed.{Handed}
 use Rattle.pair_chain.specs.Linked.{Walk}
 use Rattle.exercise_within.specs.Known.{Known}
-use Rattle.exercise_within.specs.declared.Entry.{Entry}
-use Rattle.exercise_within.specs.declared.Entry.TheVariants.{No, Yes}
 use Rattle.exercise_within.proofs.Entries.{Weak, falls_some, falls_not, Beaten, stands_late, stands_not, stands_all}
 use Rattle.exercise_within.proofs.KnownTable.{falls_put, stands_put}
 use Rattle.pair_chain.proofs.ChainWalks.{walk_entry, walk_ends}
@@ -21,7 +19,7 @@ said : (q : ℕ → Bool) (y z : ℕ) (r b : Bool) → y ≡ z → r ≡ q y →
 said q y z r b e a p = ap q (sym e) ∙ sym a ∙ p
 
 module _ {marks objectors targets : List ℕ} (handed : Handed marks objectors targets) (x turns : ℕ) (listed : x < length marks)
-    (few : turns ≤ 6) {falls stands : List Entry} (k : Known (book_of marks objectors targets) falls stands) where
+    (few : turns ≤ 6) {falls stands : List ℕ} (k : Known (book_of marks objectors targets) falls stands) where
   abbrev B : Book
   B = book_of marks objectors targets
 
@@ -30,14 +28,14 @@ module _ {marks objectors targets : List ℕ} (handed : Handed marks objectors t
 
   module _ (late : turns ≡ 0 → ⊥) (c : ℕ) (w : Walk targets (length targets) x (Weak marks objectors targets turns) c) where
     pub falls_found : (c ≡ 0 → ⊥) → (y : ℕ) (r : Bool) → y ≡ get_or objectors (c - 1) 0 → r ≡ stands_within B (turns - 1) y
-        → r ≡ true → (true ≡ falls_within B turns x) × Known B (set falls (turns * 1024 + x) Yes) stands
+        → r ≡ true → (true ≡ falls_within B turns x) × Known B (set falls (turns * 1024 + x) 2) stands
     falls_found n y r e a p =
         let (l, o) = walk_entry w n in
         falls_put B falls stands k turns x small few true
         (falls_some marks objectors targets handed x (c - 1) l o turns late
         (said (stands_within B (turns - 1)) y (get_or objectors (c - 1) 0) r true e a p))
 
-    pub falls_ends : c ≡ 0 → (false ≡ falls_within B turns x) × Known B (set falls (turns * 1024 + x) No) stands
+    pub falls_ends : c ≡ 0 → (false ≡ falls_within B turns x) × Known B (set falls (turns * 1024 + x) 1) stands
     falls_ends z =
         falls_put B falls stands k turns x small few false
         (falls_not marks objectors targets handed x turns late (walk_ends w z))
@@ -50,7 +48,7 @@ module _ {marks objectors targets : List ℕ} (handed : Handed marks objectors t
 
     pub stands_lost : (c ≡ 0 → ⊥) → (turns ≡ 0 → ⊥) → (y : ℕ) (r : Bool) → y ≡ get_or objectors (c - 1) 0
         → r ≡ falls_within B (turns - 1) y
-        → r ≡ false → (false ≡ stands_within B turns x) × Known B falls (set stands (turns * 1024 + x) No)
+        → r ≡ false → (false ≡ stands_within B turns x) × Known B falls (set stands (turns * 1024 + x) 1)
     stands_lost n late y r e a p =
         let (l, o) = walk_entry w n in
         stands_put B falls stands k turns x small few false
@@ -58,7 +56,7 @@ module _ {marks objectors targets : List ℕ} (handed : Handed marks objectors t
         (said (falls_within B (turns - 1)) y (get_or objectors (c - 1) 0) r false e a p))
 
     pub stands_ends : get_or marks x 0 ≡ 0 → c ≡ 0 → (true ≡ stands_within B turns x)
-        × Known B falls (set stands (turns * 1024 + x) Yes)
+        × Known B falls (set stands (turns * 1024 + x) 2)
     stands_ends m z =
         stands_put B falls stands k turns x small few true
         (stands_all marks objectors targets handed x turns m (walk_ends w z))

@@ -21,30 +21,28 @@ pub fn count(pairs: &Pairs, left: &mut [u16])
     }
 }
 
-// What the labelling writes: for each place how many objections against it are left to look at, its label and its length; and
-// the queue of the places that have a label.
+// What the labelling writes at each step: for each place its label and its length, and the queue of the places that have a label.
+// How many objections against a place are left to look at is lent beside it, since not each step writes that.
 #[derive(Drop)]
 pub struct Work<'a> {
-    pub left: &'a mut [u16],
     pub labels: &'a mut [u8],
     pub lengths: &'a mut [u16],
     pub queue: &'a mut [u16],
 }
 
 // Labels what is read and has no objector, and queues it.
-pub fn start(pairs: &Pairs, work: &mut Work) -> usize
+pub fn start(pairs: &Pairs, left: &[u16], work: &mut Work) -> usize
     requires rooms { Rooms pairs.now.marks.now work.old.labels.now work.old.lengths.now }
-    requires spaces { Spaces pairs.now.marks.now work.old.left.now work.old.queue.now }
-    requires counted { Counted pairs.now.marks.now pairs.now.targets.now (length pairs.now.targets.now) work.old.left.now }
+    requires spaces { Spaces pairs.now.marks.now left.now work.old.queue.now }
+    requires counted { Counted pairs.now.marks.now pairs.now.targets.now (length pairs.now.targets.now) left.now }
     requires blank { Blank pairs.now.marks.now work.old.labels.now work.old.lengths.now }
-    ensures queued { WorkAt pairs.now 0 result work.new }
+    ensures queued { WorkAt pairs.now left.now 0 result work.new }
     ensures same { SameRooms work.old work.new }
-    ensures left { work.new.left.now ≡ work.old.left.now }
 {
     let mut t = 0;
     // The places before x that are read and have no objector stand and are queued before t; no other place has a label.
     for (x, &mark) in pairs.marks.iter().enumerate() {
-        if mark == 0 && work.left[x] == 0 {
+        if mark == 0 && left[x] == 0 {
             work.labels[x] = 1;
             work.lengths[x] = 0;
             work.queue[t] = x as u16;

@@ -20,9 +20,9 @@ use lists::Pairs;
 use pair_chain::{Links, chain};
 
 // Looks at every place of the queue, which grows meanwhile.
-fn run(pairs: &Pairs, links: &Links, work: &mut Work, tail: usize)
+fn run(pairs: &Pairs, links: &Links, left: &mut [u16], work: &mut Work, tail: usize)
     requires chains { Chains pairs.now.marks.now pairs.now.objectors.now links.now.head.now links.now.next.now }
-    requires queued { WorkAt pairs.now 0 tail work.old }
+    requires queued { WorkAt pairs.now left.old 0 tail work.old }
     ensures labelled { Labelled (pairs_book pairs.now) work.new.labels.now work.new.lengths.now }
     ensures same { SameRooms work.old work.new }
 {
@@ -33,9 +33,9 @@ fn run(pairs: &Pairs, links: &Links, work: &mut Work, tail: usize)
     while h < t {
         let y = usize::from(work.queue[h]);
         t = if work.labels[y] == 1 {
-            fell_targets(pairs, links, work, h, t)
+            fell_targets(pairs, links, left, work, h, t)
         } else {
-            stand_targets(pairs, links, work, h, t)
+            stand_targets(pairs, links, left, work, h, t)
         };
         h += 1;
     }
@@ -61,13 +61,12 @@ fn label_all(pairs: &Pairs, labels: &mut [u8], lengths: &mut [u16])
         next: &next,
     };
     let mut work = Work {
-        left: &mut left,
         labels,
         lengths,
         queue: &mut queue,
     };
-    let tail = start(pairs, &mut work);
-    run(pairs, &links, &mut work, tail);
+    let tail = start(pairs, &left, &mut work);
+    run(pairs, &links, &mut left, &mut work, tail);
 }
 
 // Labels every statement, in time linear in statements and objections. The rooms may be longer than that takes.

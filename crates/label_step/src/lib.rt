@@ -10,14 +10,20 @@ use label_queue::Work;
 use lists::Pairs;
 use pair_chain::Links;
 
-// The place at h of the queue stands: what it objects to falls, one turn later.
-pub fn fell_targets(pairs: &Pairs, links: &Links, work: &mut Work, h: usize, tail: usize) -> usize
+// The place at h of the queue stands: what it objects to falls, one turn later. `left` is there for the contract alone.
+pub fn fell_targets(
+    pairs: &Pairs,
+    links: &Links,
+    left: &[u16],
+    work: &mut Work,
+    h: usize,
+    tail: usize,
+) -> usize
     requires chains { Chains pairs.now.marks.now pairs.now.objectors.now links.now.head.now links.now.next.now }
-    requires queued { WorkAt pairs.now h tail work.old × (h < tail)
+    requires queued { WorkAt pairs.now left.now h tail work.old × (h < tail)
         × (get_or work.old.labels.now (get_or work.old.queue.now h 0) 0 ≡ 1) }
-    ensures queued { WorkAt pairs.now (h + 1) result work.new }
+    ensures queued { WorkAt pairs.now left.now (h + 1) result work.new }
     ensures same { SameRooms work.old work.new }
-    ensures left { work.new.left.now ≡ work.old.left.now }
 {
     let y = usize::from(work.queue[h]);
     let k = work.lengths[y] + 1;
@@ -39,11 +45,18 @@ pub fn fell_targets(pairs: &Pairs, links: &Links, work: &mut Work, h: usize, tai
 }
 
 // The place at h of the queue falls: what it objects to has one objector less, and with none left, and read, it stands.
-pub fn stand_targets(pairs: &Pairs, links: &Links, work: &mut Work, h: usize, tail: usize) -> usize
+pub fn stand_targets(
+    pairs: &Pairs,
+    links: &Links,
+    left: &mut [u16],
+    work: &mut Work,
+    h: usize,
+    tail: usize,
+) -> usize
     requires chains { Chains pairs.now.marks.now pairs.now.objectors.now links.now.head.now links.now.next.now }
-    requires queued { WorkAt pairs.now h tail work.old × (h < tail)
+    requires queued { WorkAt pairs.now left.old h tail work.old × (h < tail)
         × (get_or work.old.labels.now (get_or work.old.queue.now h 0) 0 ≡ 2) }
-    ensures queued { WorkAt pairs.now (h + 1) result work.new }
+    ensures queued { WorkAt pairs.now left.new (h + 1) result work.new }
     ensures same { SameRooms work.old work.new }
 {
     let y = usize::from(work.queue[h]);
@@ -54,8 +67,8 @@ pub fn stand_targets(pairs: &Pairs, links: &Links, work: &mut Work, h: usize, ta
     while c != 0 {
         let x = pairs.targets[c - 1] as usize;
         c = usize::from(links.next[c - 1]);
-        work.left[x] -= 1;
-        if work.left[x] != 0 || pairs.marks[x] != 0 || work.labels[x] != 0 {
+        left[x] -= 1;
+        if left[x] != 0 || pairs.marks[x] != 0 || work.labels[x] != 0 {
             continue;
         }
         work.labels[x] = 1;

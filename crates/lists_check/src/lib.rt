@@ -24,10 +24,16 @@ pub fn bad_place(marks: &[u8], objectors: &[u32], targets: &[u32]) -> Option<usi
         (length objectors.now) result }
 {
     let n = marks.len();
-    objectors
-        .iter()
-        .zip(targets)
-        .position(|(&y, &x)| y as usize >= n || x as usize >= n)
+    // Both places of each of the first k pairs are within the mark list.
+    for k in 0..objectors.len() {
+        if objectors[k] as usize >= n {
+            return Some(k);
+        }
+        if targets[k] as usize >= n {
+            return Some(k);
+        }
+    }
+    None
 }
 
 // The first pair that stands earlier too, if there is one. The handed lists are only read: the pairs passed are linked in two

@@ -3,11 +3,14 @@
 // cause for which it is dropped. Reading the lines is left to `mend_text`.
 //
 // A fate stays a number of one byte, not an enum: the fates of up to 65,535 lines stand in fixed memory, with no heap, and the
-// number is the one that the report writes. Numbers and their links are one value, the index; the other rooms stay parameters of
-// their own: some are written while others are read.
+// number is the one that the report writes. Where a statement is entered, numbers and their links are one value, the index; the
+// other rooms stay parameters of their own: some are written while others are read.
 #![tactic(auto)]
 
-ghost use Rattle.std.specs.Prelude.{cond, ◌≡◌, ◌≤◌, ◌+◌, eqb, length};
+ghost use Rattle.std.specs.Prelude.{cond, ◌≡◌, ◌≤◌, ◌<◌, ◌+◌, eqb, length};
+ghost use Rattle.game.specs.Questions.{FirstBelow};
+ghost use Rattle.lists.specs.Refuses.{Same};
+ghost use Rattle.register_index.specs.Indexed.{Indexed};
 ghost use Rattle.register_index.specs.IndexAt.{IsIndexed, SameParts};
 ghost use Rattle.pair_words.specs.Words.{objectors_in, targets_in};
 ghost use Rattle.pair_repeat.specs.Entered.{Entered};
@@ -27,7 +30,7 @@ pub fn settle_statement(index: &mut NumberIndex, marks: &mut [u8], statement: St
 {
     let n = index.n;
     let StatementLine { number, mark } = statement;
-    if let Some(first) = register_index::look_up(index, number) {
+    if let Some(first) = register_index::look_up_in(index, number) {
         marks[first] = 1;
         return 5;
     }
@@ -39,31 +42,49 @@ pub fn settle_statement(index: &mut NumberIndex, marks: &mut [u8], statement: St
     0
 }
 
-// Settles an objection after the statements and m objections kept: 7 or 9 marks a listed target unread, 8, or kept.
+// The first of the m objections kept that is the one of y against x, if one is. Never inlined: beside all else some processors
+// read the jumps of its loop slowly, and a text that repeats one objection over and over takes half as long again.
+#[inline(never)]
+fn kept_at(
+    objectors: &[u32],
+    targets: &[u32],
+    n: usize,
+    m: usize,
+    y: usize,
+    x: usize,
+) -> Option<usize>
+    requires { Entered n m objectors.now targets.now × (m ≤ 4096) × (y < n) × (x < n) }
+    ensures { FirstBelow (Same (objectors_in objectors.now) (targets_in objectors.now) y x) m result }
+{
+    pair_repeat::pair_at(objectors, targets, n, m, y, x)
+}
+
+// Settles an objection after n statements and m objections kept: 7 or 9 marks a listed target unread, 8, or kept.
 pub fn settle_objection(
-    index: &NumberIndex,
+    numbers: &[u32],
     marks: &mut [u8],
+    links: &[u16],
     objectors: &mut [u32],
     targets: &mut [u32],
+    n: usize,
     m: usize,
     objection: ObjectionLine,
 ) -> u8
     requires m_bound { (m ≤ 4096) × (1024 ≤ length marks.old) × (4096 ≤ length objectors.old) × (4096 ≤ length targets.old) }
-    requires indexed { IsIndexed index.now × Entered index.now.n m objectors.old targets.old }
-    ensures { ObjectionSettled index.now.numbers.now marks.old (objectors_in objectors.old)
-        (targets_in objectors.old) index.now.n m objection result marks.new (objectors_in objectors.new)
-        (targets_in objectors.new) × Entered index.now.n (cond (eqb result 0) (m + 1) m) objectors.new targets.new }
+    requires indexed { Indexed numbers.now n links.now × Entered n m objectors.old targets.old }
+    ensures { ObjectionSettled numbers.now marks.old (objectors_in objectors.old)
+        (targets_in objectors.old) n m objection result marks.new (objectors_in objectors.new)
+        (targets_in objectors.new) × Entered n (cond (eqb result 0) (m + 1) m) objectors.new targets.new }
 {
-    let n = index.n;
     let ObjectionLine { objector, target } = objection;
-    let Some(x) = register_index::look_up(index, target) else {
+    let Some(x) = register_index::look_up(numbers, n, links, target) else {
         return 7;
     };
-    let Some(y) = register_index::look_up(index, objector) else {
+    let Some(y) = register_index::look_up(numbers, n, links, objector) else {
         marks[x] = 1; // whether its objector stands, nobody can tell
         return 7;
     };
-    if pair_repeat::pair_at(objectors, targets, n, m, y, x).is_some() {
+    if kept_at(objectors, targets, n, m, y, x).is_some() {
         return 8;
     }
     if m >= 4096 {

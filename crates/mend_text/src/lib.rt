@@ -58,7 +58,9 @@ pub struct KeptCounts {
     pub lines: usize,
 }
 
-// The place of the first byte 10, if there is one.
+// The place of the first byte 10, if there is one. Never inlined: beside the place of its line the loop costs two steps more for
+// each byte.
+#[inline(never)]
 fn line_end(text: &[u8]) -> Option<usize>
     ensures { FirstBelow (λ i. get_or text.now i 0 ≡ 10) (length text.now) result }
 {
@@ -194,7 +196,16 @@ fn pass_objection(
             objections: m,
         },
         AnyLine::Good(Line::Objection(objection), next) => {
-            let fate = mend_line::settle_objection(index, marks, objectors, targets, m, objection);
+            let fate = mend_line::settle_objection(
+                index.numbers,
+                marks,
+                index.links,
+                objectors,
+                targets,
+                index.n,
+                m,
+                objection,
+            );
             fates[k] = fate;
             ObjectionPass {
                 next,

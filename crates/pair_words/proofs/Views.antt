@@ -98,19 +98,19 @@ module _ (links : List ℕ) (i v : ℕ) where
         (stored links i (get_or links i 0 % 4096 + 4096 * v) h j)
 
 -- a link is a low part or a high one
-link_low : (links : List ℕ) (e : ℕ) → e < 3072 → link_by links e ≡ low links e
+pub link_low : (links : List ℕ) (e : ℕ) → e < 3072 → link_by links e ≡ low links e
 unfolding link_by
 link_low links e h = rw (lt-ltb e 3072 h) refl
 
-link_high : (links : List ℕ) (e : ℕ) → 3072 ≤ e → link_by links e ≡ high links (e - 3072)
+pub link_high : (links : List ℕ) (e : ℕ) → 3072 ≤ e → link_by links e ≡ high links (e - 3072)
 unfolding link_by
 link_high links e h = rw (le-ltb e 3072 h) refl
 
-put_low : (links : List ℕ) (e l : ℕ) → e < 3072 → with_link_by links e l ≡ with_low links e l
+pub put_low : (links : List ℕ) (e l : ℕ) → e < 3072 → with_link_by links e l ≡ with_low links e l
 unfolding with_link_by
 put_low links e l h = rw (lt-ltb e 3072 h) refl
 
-put_high : (links : List ℕ) (e l : ℕ) → 3072 ≤ e → with_link_by links e l ≡ with_high links (e - 3072) l
+pub put_high : (links : List ℕ) (e l : ℕ) → 3072 ≤ e → with_link_by links e l ≡ with_high links (e - 3072) l
 unfolding with_link_by
 put_high links e l h = rw (le-ltb e 3072 h) refl
 

@@ -5,6 +5,8 @@
 ghost use Rattle.std.specs.Prelude.{◌≤◌, length, take};
 ghost use Rattle.promises.specs.Programs.{Prints};
 
+use program_stream::Failures;
+
 // Puts what is to be printed at the start of the room, and answers how many bytes it has.
 fn output(text: &[u8], room: &mut [u8]) -> usize
     requires { 131072 ≤ length room.old }
@@ -17,5 +19,9 @@ fn output(text: &[u8], room: &mut [u8]) -> usize
 // The room is large enough for any listing.
 fn main(rt: HostRuntime) {
     let mut room = [0u8; 131072];
-    program_stream::filter(rt, b" <register\n", b"list", &mut room, output);
+    let failed = Failures {
+        input: b"list: standard input",
+        output: b"list: standard output",
+    };
+    program_stream::filter(rt, b" <register\n", failed, &mut room, output);
 }

@@ -67,14 +67,14 @@ fn print_mended(rt: HostRuntime, text: &[u8], made: Option<File>) -> bool {
             return false;
         }
     }
-    program_stream::print_bytes(rt, &room[..printed], b"mend");
+    program_stream::print_bytes(rt, &room[..printed], b"mend: standard output");
     reported.is_some()
 }
 
 // The buffer is one byte longer than a text may be, so that a longer one is refused. Answers whether there is a report.
 fn mend_input(rt: HostRuntime, made: Option<File>) -> bool {
     let mut buffer = [0u8; 65536];
-    let Some(text) = program_stream::read_all(rt, &mut buffer, b"mend") else {
+    let Some(text) = program_stream::read_all(rt, &mut buffer, b"mend: standard input") else {
         return false;
     };
     print_mended(rt, text, made)

@@ -9,6 +9,7 @@ ghost use Rattle.promises.specs.Programs.{PrintsReason};
 ghost use Rattle.program_reason.specs.AskedNumber.{NumberOf};
 
 use answer::Answer;
+use program_stream::Failures;
 use std::rt::Env;
 
 // The number that the argument is, by its code, or 0, which is nobody's. No Option: the call is made all the same, since a text's
@@ -41,6 +42,22 @@ fn argument_room() -> [u8; 16]
     [0; 16]
 }
 
+// Prints the reason for the statement of a number. Apart from `main`, since a function zeroes its rooms where it begins: so the
+// room is zeroed once, and not before it is known that it is wanted.
+fn print_reason(rt: HostRuntime, number: &[u8]) {
+    let mut room = [0u8; 131072];
+    let failed = Failures {
+        input: b"reason: standard input",
+        output: b"reason: standard output",
+    };
+    program_stream::print_answer(
+        rt,
+        failed,
+        &mut room,
+        |text, room| output(text, number, room),
+    );
+}
+
 // An argument that does not fit its room is read as an empty one: neither is a number. Its first bytes are there all the same, so
 // that a long option is seen.
 fn main(rt: HostRuntime) {
@@ -51,12 +68,5 @@ fn main(rt: HostRuntime) {
         program_stream::print_usage(rt, b" NUMBER <register\n");
         return;
     }
-    let number = &argument[..n];
-    let mut room = [0u8; 131072];
-    program_stream::print_answer(
-        rt,
-        b"reason",
-        &mut room,
-        |text, room| output(text, number, room),
-    );
+    print_reason(rt, &argument[..n]);
 }

@@ -72,9 +72,9 @@ fn tell_waiting(rt: HostRuntime) {
     }
 }
 
-// Reads until the input ends, the room is full or a read fails, which is not the end of the input: what failed is said then, in
-// the name of the program. At a terminal it says that it waits.
-pub fn read_all<'a>(rt: HostRuntime, room: &'a mut [u8], named: &[u8]) -> Option<&'a [u8]>
+// Reads until the input ends, the room is full or a read fails, which is not the end of the input: what failed is said then. At a
+// terminal it says that it waits.
+pub fn read_all<'a>(rt: HostRuntime, room: &'a mut [u8], failed: &[u8]) -> Option<&'a [u8]>
     ensures { Within (length room.old) result }
 {
     tell_waiting(rt);
@@ -85,8 +85,7 @@ pub fn read_all<'a>(rt: HostRuntime, room: &'a mut [u8], named: &[u8]) -> Option
             Ok(0) => break,
             Ok(n) => done += n,
             Err(error) => {
-                say(rt, named);
-                say_failure(rt, b": standard input", error);
+                say_failure(rt, failed, error);
                 return None;
             }
         }
@@ -142,19 +141,25 @@ pub fn write_pieces<W: Write>(to: &mut W, bytes: &[u8]) -> io::Result<()> {
     Ok(())
 }
 
-// Writes bytes to standard output, and where they are not taken, says what failed, in the name of the program.
-pub fn print_bytes(rt: HostRuntime, bytes: &[u8], named: &[u8]) {
+// Writes bytes to standard output, and where they are not taken, says what failed.
+pub fn print_bytes(rt: HostRuntime, bytes: &[u8], failed: &[u8]) {
     if let Err(error) = write_pieces(&mut rt.stdout(), bytes) {
-        say(rt, named);
-        say_failure(rt, b": standard output", error);
+        say_failure(rt, failed, error);
     }
+}
+
+// The words by which a program says that its input, or its output, failed. Each is said whole, by one write.
+#[derive(Clone, Copy)]
+pub struct Failures<'a> {
+    pub input: &'a [u8],
+    pub output: &'a [u8],
 }
 
 // Reads the input whole, and prints what `output` puts for it at the start of the room, as many bytes as it answers. Where a read
 // fails, nothing is printed. The buffer is one byte longer than an input may be, so that a longer one is refused.
 pub fn print_answer<F: FnOnce(&[u8], &mut [u8]) -> usize + Drop>(
     rt: HostRuntime,
-    named: &[u8],
+    failed: Failures,
     room: &mut [u8],
     output: F,
 )
@@ -162,18 +167,18 @@ pub fn print_answer<F: FnOnce(&[u8], &mut [u8]) -> usize + Drop>(
     requires puts { PutsInside (F.post output) (length room.old) }
 {
     let mut text = [0u8; 65536];
-    let Some(bytes) = read_all(rt, &mut text, named) else {
+    let Some(bytes) = read_all(rt, &mut text, failed.input) else {
         return;
     };
     let n = output(bytes, room);
-    print_bytes(rt, &room[..n], named);
+    print_bytes(rt, &room[..n], failed.output);
 }
 
 // A filter, which takes no word: with one it says how it is used, and reads nothing.
 pub fn filter<F: FnOnce(&[u8], &mut [u8]) -> usize + Drop>(
     rt: HostRuntime,
     words: &[u8],
-    named: &[u8],
+    failed: Failures,
     room: &mut [u8],
     output: F,
 )
@@ -184,5 +189,5 @@ pub fn filter<F: FnOnce(&[u8], &mut [u8]) -> usize + Drop>(
         print_usage(rt, words);
         return;
     }
-    print_answer(rt, named, room, output);
+    print_answer(rt, failed, room, output);
 }

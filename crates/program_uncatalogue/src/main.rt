@@ -6,6 +6,8 @@
 ghost use Rattle.std.specs.Prelude.{◌≤◌, length, take};
 ghost use Rattle.promises.specs.Programs.{PrintsOldForm};
 
+use program_stream::Failures;
+
 // Puts what is to be printed at the start of the room, and answers how many bytes it has.
 fn output(catalogue: &[u8], room: &mut [u8]) -> usize
     requires { 65535 ≤ length room.old }
@@ -18,5 +20,9 @@ fn output(catalogue: &[u8], room: &mut [u8]) -> usize
 // The room is large enough for any old form.
 fn main(rt: HostRuntime) {
     let mut room = [0u8; 65536];
-    program_stream::filter(rt, b" <catalogue\n", b"uncatalogue", &mut room, output);
+    let failed = Failures {
+        input: b"uncatalogue: standard input",
+        output: b"uncatalogue: standard output",
+    };
+    program_stream::filter(rt, b" <catalogue\n", failed, &mut room, output);
 }

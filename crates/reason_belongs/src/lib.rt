@@ -21,7 +21,8 @@ pub fn belongs(labelled: &LabelledPairs, k: usize) -> bool
     let target_length = labelled.lengths[labelled.pairs.targets[k] as usize];
     match kind_at(labelled, k) {
         Kind::Idle => false,
-        Kind::Felling(length) => length == target_length,
+        Kind::Felling(length) if length != target_length => false,
+        Kind::Felling(_) => true,
         Kind::Delaying(_) => true,
         Kind::Standoff => true,
     }

@@ -13,7 +13,7 @@ mod number_index;
 
 ghost use Rattle.std.specs.Prelude.{◌≡◌, ◌≤◌, ◌+◌, length, get_or, set};
 ghost use Rattle.game.specs.Questions.{FirstBelow};
-ghost use Rattle.register_index.specs.Indexed.{slot, Free, New};
+ghost use Rattle.register_index.specs.Indexed.{slot, Indexed, Free, New};
 ghost use Rattle.register_index.specs.IndexAt.{IsIndexed, SameParts};
 
 pub use number_index::NumberIndex;
@@ -37,22 +37,30 @@ fn below(links: &[u16], rest: u32, node: usize) -> usize
     usize::from(links[s])
 }
 
-// The place of a number among the first n, if it is there.
-pub fn look_up(index: &NumberIndex, number: u32) -> Option<usize>
-    requires { IsIndexed index.now }
-    ensures { FirstBelow (λ x. get_or index.now.numbers.now x 0 ≡ number) index.now.n result }
+// The place of a number among the first n, if it is there. The two rooms are only read, so they are lent one by one.
+pub fn look_up(numbers: &[u32], n: usize, links: &[u16], number: u32) -> Option<usize>
+    requires { Indexed numbers.now n links.now }
+    ensures { FirstBelow (λ x. get_or numbers.now x 0 ≡ number) n result }
 {
     let mut rest = number;
-    let mut node = below(index.links, rest, 0);
+    let mut node = below(links, rest, 0);
     // The number, if it is among the first n, is at the node or below it.
     while node != 0 {
-        if index.numbers[node - 1] == number {
+        if numbers[node - 1] == number {
             return Some(node - 1);
         }
         rest = rest / 8;
-        node = below(index.links, rest, node);
+        node = below(links, rest, node);
     }
     None
+}
+
+// The place of a number in an index, if it was entered.
+pub fn look_up_in(index: &NumberIndex, number: u32) -> Option<usize>
+    requires { IsIndexed index.now }
+    ensures { FirstBelow (λ x. get_or index.now.numbers.now x 0 ≡ number) index.now.n result }
+{
+    look_up(index.numbers, index.n, index.links, number)
 }
 
 // The free slot to which the digits of a number lead.

@@ -58,7 +58,7 @@ fn take_statement(
         return Err(TextFault::Statements(line_after(n, m)));
     }
     let StatementLine { number, mark } = statement;
-    if register_index::look_up(index, number).is_some() {
+    if register_index::look_up_in(index, number).is_some() {
         return Err(TextFault::Issued(line_after(n, m)));
     }
     register_index::enter(index, number);
@@ -86,8 +86,8 @@ fn take_objection(
         return Err(TextFault::Objections(line_after(n, m)));
     }
     let unknown = TextFault::Unknown(line_after(n, m));
-    let y = register_index::look_up(index, objection.objector).ok_or(unknown)?;
-    let x = register_index::look_up(index, objection.target).ok_or(unknown)?;
+    let y = register_index::look_up_in(index, objection.objector).ok_or(unknown)?;
+    let x = register_index::look_up_in(index, objection.target).ok_or(unknown)?;
     pair_repeat::begin(objectors, targets, n, m);
     if pair_repeat::pair_at(objectors, targets, n, m, y, x).is_some() {
         return Err(TextFault::Repeated(line_after(n, m)));

@@ -2,11 +2,12 @@
 use mathlib.Core.List.{List}
 use mathlib.Core.Logic.{inl}
 use mathlib.Core.Path.{ap, sym, refl, ◌≡◌, ◌∙◌}
-use Prim.Native.Nat.{ℕ, ◌≤◌, ◌<◌}
+use Prim.Native.Nat.{ℕ}
 use native.Mathlib.Omega.{arith}
 use lib.ListN.{length, get_or}
 use Rattle.game.specs.Book.{book_of}
-use Rattle.game.specs.Questions.{Found}
+use Rattle.game.specs.Questions.{FirstBelow}
+use Rattle.std.specs.Prelude.{Some, None}
 use Rattle.lists.specs.Handed.{Handed}
 use Rattle.label_solve.specs.Labelled.{ListsLabelled}
 use Rattle.register.specs.Register.{Register, book, Issued, Places}
@@ -28,18 +29,22 @@ module _ (R : Register) (nums marks objectors targets : List ℕ) (made : Made R
   pub book_is : book_of marks objectors targets ≡ book R
   book_is = rw (made.marks_are, made.objectors_are, made.targets_are) refl
 
-  module _ (number x : ℕ) (f : Found (λ i. get_or nums i 0 ≡ number) (length nums) x) where
-    pub unlisted : (turns : ℕ) (short : Type 0) → length nums ≤ x → Asks (Issued R number) turns short Asked
-    unlisted turns short h =
+  -- a number that is not found is asked for in vain, and one that is found has its place there
+  module _ (number : ℕ) where
+    pub unlisted : FirstBelow (λ i. get_or nums i 0 ≡ number) (length nums) None → (turns : ℕ) (short : Type 0)
+        → Asks (Issued R number) turns short Asked
+    unlisted none turns short =
         inl (
-          λ w. f.1 w.0 (omega (arith, w.1, ap length made.numbers_are))
+          λ w. none w.0 (omega (arith, w.1, ap length made.numbers_are))
               (ap (λ (u : List ℕ). get_or u w.0 0) made.numbers_are ∙ w.2),
           refl,
         )
 
-    module _ (h : x < length nums) where
-      pub place : Places R number x
-      place = (omega (arith, ap length made.numbers_are), sym (ap (λ (u : List ℕ). get_or u x 0) made.numbers_are) ∙ f.2 h)
+    pub place : (x : ℕ) → FirstBelow (λ i. get_or nums i 0 ≡ number) (length nums) (Some x) → Places R number x
+    place x found = (
+      omega (arith, found.0, ap length made.numbers_are),
+      sym (ap (λ (u : List ℕ). get_or u x 0) made.numbers_are) ∙ found.2,
+    )
 
 -- what is ready is settled
 pub ready_settled : (R : Register) (nums marks objectors targets labels lengths : List ℕ)

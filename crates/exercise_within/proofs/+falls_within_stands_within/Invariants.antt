@@ -17,7 +17,7 @@ abbrev pub invariant-falls_within-loop-c : goal.invariant-falls_within-loop-c
 invariant-falls_within-loop-c l =
     Walk l.pairs.targets.now (length l.pairs.targets.now) l.x
     (Weak l.pairs.marks.now l.pairs.objectors.now l.pairs.targets.now l.turns) l.c
-    × Known (book_of l.pairs.marks.now l.pairs.objectors.now l.pairs.targets.now) l.tables.falls l.tables.stands
+    × Known (book_of l.pairs.marks.now l.pairs.objectors.now l.pairs.targets.now) l.falls l.stands
 
 abbrev pub decreases-falls_within-loop-c : goal.decreases-falls_within-loop-c
 decreases-falls_within-loop-c l = l.c
@@ -26,7 +26,7 @@ abbrev pub invariant-stands_within-loop-c : goal.invariant-stands_within-loop-c
 invariant-stands_within-loop-c l =
     Walk l.pairs.targets.now (length l.pairs.targets.now) l.x
     (Beaten l.pairs.marks.now l.pairs.objectors.now l.pairs.targets.now l.turns) l.c
-    × Known (book_of l.pairs.marks.now l.pairs.objectors.now l.pairs.targets.now) l.tables.falls l.tables.stands
+    × Known (book_of l.pairs.marks.now l.pairs.objectors.now l.pairs.targets.now) l.falls l.stands
 
 abbrev pub decreases-stands_within-loop-c : goal.decreases-stands_within-loop-c
 decreases-stands_within-loop-c l = l.c

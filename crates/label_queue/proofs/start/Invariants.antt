@@ -10,10 +10,9 @@ use Rattle.label_queue.proofs.start.Given as goal
 abbrev pub invariant-loop-x : goal.invariant-loop-x
 invariant-loop-x l = record {
   rooms : Rooms l.pairs.marks.now l.work.labels.now l.work.lengths.now;
-  spaces : Spaces l.pairs.marks.now l.work.left.now l.work.queue.now;
+  spaces : Spaces l.pairs.marks.now l.left l.work.queue.now;
   same : SameRooms l.initial.work l.work;
-  left : l.work.left.now ≡ l.initial.work.left.now;
   run : Run l.pairs.marks.now l.pairs.objectors.now l.pairs.targets.now l.x 0 l.t 0 0 0 l.work.labels.now l.work.lengths.now
-      l.work.left.now l.work.queue.now;
+      l.left l.work.queue.now;
   no_label : (x : ℕ) → l.x ≤ x → x < length l.pairs.marks.now → get_or l.work.labels.now x 0 ≡ 0;
 }

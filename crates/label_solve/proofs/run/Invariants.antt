@@ -5,7 +5,7 @@ use Rattle.label_queue.specs.WorkAt.{WorkAt, SameRooms}
 use Rattle.label_solve.proofs.run.Given as goal
 
 abbrev pub invariant-loop-h : goal.invariant-loop-h
-invariant-loop-h l = WorkAt l.pairs l.h l.t l.work × SameRooms l.initial.work l.work
+invariant-loop-h l = WorkAt l.pairs l.left l.h l.t l.work × SameRooms l.initial.work l.work
 
 abbrev pub decreases-loop-h : goal.decreases-loop-h
 decreases-loop-h l = length l.pairs.marks.now - l.h

@@ -2,6 +2,7 @@
 use mathlib.Core.Path.{refl, sym}
 use Rattle.std.proofs.Common.{rules}
 use Rattle.label_queue.proofs.Runs.{enter, moved, fell_skip, fell_set, queue_room}
+use Rattle.label_queue.proofs.WorkRooms.{same_on}
 use Rattle.label_step.proofs.fell_targets.Goals as goal
 
 pub loop-c-init : goal.loop-c-init
@@ -11,8 +12,7 @@ loop-c-init c =
     record {
       rooms = c.requires.queued.0.rooms;
       spaces = c.requires.queued.0.spaces;
-      same = (refl, refl, refl, refl);
-      left = refl;
+      same = search rules;
       run = entered.0;
       link = entered.1;
     }
@@ -25,7 +25,6 @@ loop-c-preserved-then-work-x-ne0 c =
       rooms = c.loop-c.invariant.rooms;
       spaces = c.loop-c.invariant.spaces;
       same = c.loop-c.invariant.same;
-      left = c.loop-c.invariant.left;
       run = gone.0;
       link = gone.1;
     }
@@ -43,8 +42,7 @@ loop-c-preserved c =
     record {
       rooms = record { labels_room = search rules; lengths_room = search rules };
       spaces = record { left_room = search rules; queue_room = search rules };
-      same = c.loop-c.invariant.same;
-      left = c.loop-c.invariant.left;
+      same = same_on c.loop-c.invariant.same (search rules);
       run = gone.0;
       link = gone.1;
     }

@@ -1,5 +1,4 @@
 -- `fell_targets` goes along the chain of a standing place. The invariant: what is looked at is the link reached.
-use mathlib.Core.Path.{◌≡◌}
 use Prim.Native.Nat.{◌+◌}
 use lib.ListN.{length}
 use Rattle.label_queue.specs.LabelState.{Rooms}
@@ -11,11 +10,10 @@ use Rattle.label_step.proofs.fell_targets.Given as goal
 abbrev pub invariant-loop-c : goal.invariant-loop-c
 invariant-loop-c l = record {
   rooms : Rooms l.pairs.marks.now l.work.labels.now l.work.lengths.now;
-  spaces : Spaces l.pairs.marks.now l.work.left.now l.work.queue.now;
+  spaces : Spaces l.pairs.marks.now l.left l.work.queue.now;
   same : SameRooms l.initial.work l.work;
-  left : l.work.left.now ≡ l.initial.work.left.now;
   run : Run l.pairs.marks.now l.pairs.objectors.now l.pairs.targets.now (length l.pairs.marks.now) (l.h + 1) l.t l.y l.c l.k
-      l.work.labels.now l.work.lengths.now l.work.left.now l.work.queue.now;
+      l.work.labels.now l.work.lengths.now l.left l.work.queue.now;
   link : Link l.pairs.marks.now l.pairs.objectors.now l.h l.t l.y 1 l.c l.k l.work.labels.now l.work.lengths.now
       l.work.queue.now;
 }

@@ -6,10 +6,11 @@ use lib.ListN.{get_or}
 use lib.Seq.{get_or-set_same}
 use Rattle.std.proofs.Common.{rules}
 use Rattle.label_queue.proofs.Runs.{enter, moved, left_some, lift_skip, lift_set, queue_room}
+use Rattle.label_queue.proofs.WorkRooms.{same_on}
 use Rattle.label_step.proofs.stand_targets.Goals as goal
-use Rattle.label_step.proofs.stand_targets.Goals.{then-work-x-ne0-via-then-work-x-ne0}
-use Rattle.label_step.proofs.stand_targets.Goals.{then-work-x-ne0-via-else-work-x-ne0+then-pairs-x-ne0}
-use Rattle.label_step.proofs.stand_targets.Goals.{then-work-x-ne0-via-else-work-x-ne0+else-pairs-x-ne0+then-work-x-ne0-2}
+use Rattle.label_step.proofs.stand_targets.Goals.{then-left-x-ne0-via-then-left-x-ne0}
+use Rattle.label_step.proofs.stand_targets.Goals.{then-left-x-ne0-via-else-left-x-ne0+then-pairs-x-ne0}
+use Rattle.label_step.proofs.stand_targets.Goals.{then-left-x-ne0-via-else-left-x-ne0+else-pairs-x-ne0+then-work-x-ne0}
 
 pub loop-c-init : goal.loop-c-init
 loop-c-init c =
@@ -18,27 +19,27 @@ loop-c-init c =
     record {
       rooms = c.requires.queued.0.rooms;
       spaces = c.requires.queued.0.spaces;
-      same = (refl, refl, refl, refl);
+      same = search rules;
       run = entered.0;
       link = entered.1;
     }
 
-pub overflow_sub-work : goal.overflow_sub-work
-overflow_sub-work c = left_some c.args.pairs.now.handed c.requires.chains c.loop-c.invariant.run c.loop-c.invariant.link
+pub overflow_sub-left : goal.overflow_sub-left
+overflow_sub-left c = left_some c.args.pairs.now.handed c.requires.chains c.loop-c.invariant.run c.loop-c.invariant.link
     c.loop-c-test.true refl
 
-pub loop-c-preserved-then-work-x-ne0 : goal.loop-c-preserved-then-work-x-ne0
-loop-c-preserved-then-work-x-ne0 c =
+pub loop-c-preserved-then-left-x-ne0 : goal.loop-c-preserved-then-left-x-ne0
+loop-c-preserved-then-left-x-ne0 c =
     let gone = moved (sym c.from-c-in-loop-c.ensures) (lift_skip c.args.pairs.now.handed c.requires.chains
     c.loop-c.invariant.run c.loop-c.invariant.link c.loop-c-test.true refl _ (omega (
       arith,
       left_some c.args.pairs.now.handed c.requires.chains c.loop-c.invariant.run c.loop-c.invariant.link
           c.loop-c-test.true refl,
-    )) refl (search rules) (λ m n0 l. elim c.then-work-x-ne0.branch [
-      | then-work-x-ne0-via-then-work-x-ne0 w ↦ w.if-work-x-ne0.true (get_or-set_same c.loop-c.work.left.now
+    )) refl (search rules) (λ m n0 l. elim c.then-left-x-ne0.branch [
+      | then-left-x-ne0-via-then-left-x-ne0 w ↦ w.if-left-x-ne0.true (get_or-set_same c.loop-c.left
           (get_or c.args.pairs.now.targets.now (c.loop-c.c - 1) 0) _ 0 (search rules) ∙ n0)
-      | then-work-x-ne0-via-else-work-x-ne0+then-pairs-x-ne0 w ↦ w.if-pairs-x-ne0.true m
-      | then-work-x-ne0-via-else-work-x-ne0+else-pairs-x-ne0+then-work-x-ne0-2 w ↦ w.if-work-x-ne0-2.true l
+      | then-left-x-ne0-via-else-left-x-ne0+then-pairs-x-ne0 w ↦ w.if-pairs-x-ne0.true m
+      | then-left-x-ne0-via-else-left-x-ne0+else-pairs-x-ne0+then-work-x-ne0 w ↦ w.if-work-x-ne0.true l
     ])) in
     record {
       rooms = c.loop-c.invariant.rooms;
@@ -50,7 +51,7 @@ loop-c-preserved-then-work-x-ne0 c =
 
 pub bounds-work-t : goal.bounds-work-t
 bounds-work-t c = queue_room c.args.pairs.now.handed c.requires.chains c.loop-c.invariant.run c.loop-c.invariant.link
-    c.loop-c-test.true refl (search rules) (search rules) c.if-work-x-ne0-2.false
+    c.loop-c-test.true refl (search rules) (search rules) c.if-work-x-ne0.false
 
 pub loop-c-preserved : goal.loop-c-preserved
 loop-c-preserved c =
@@ -61,13 +62,13 @@ loop-c-preserved c =
           c.loop-c-test.true refl,
     )) refl (search rules) (search rules) (search rules) (queue_room c.args.pairs.now.handed c.requires.chains
     c.loop-c.invariant.run c.loop-c.invariant.link c.loop-c-test.true refl (search rules) (search rules)
-    c.if-work-x-ne0-2.false) (sym (get_or-set_same c.loop-c.work.left.now
-    (get_or c.args.pairs.now.targets.now (c.loop-c.c - 1) 0) _ 0 (search rules)) ∙ c.if-work-x-ne0.false)
-    c.if-pairs-x-ne0.false c.if-work-x-ne0-2.false) in
+    c.if-work-x-ne0.false) (sym (get_or-set_same c.loop-c.left
+    (get_or c.args.pairs.now.targets.now (c.loop-c.c - 1) 0) _ 0 (search rules)) ∙ c.if-left-x-ne0.false)
+    c.if-pairs-x-ne0.false c.if-work-x-ne0.false) in
     record {
       rooms = record { labels_room = search rules; lengths_room = search rules };
       spaces = record { left_room = search rules; queue_room = search rules };
-      same = c.loop-c.invariant.same;
+      same = same_on c.loop-c.invariant.same (search rules);
       run = gone.0;
       link = gone.1;
     }

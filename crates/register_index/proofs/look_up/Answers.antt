@@ -12,4 +12,4 @@ loop-node-smaller c = left_less _ _ _ c.requires _ _ _ c.loop-node.invariant.0 c
 
 pub loop-node-preserved : goal.loop-node-preserved
 loop-node-preserved c = seek_more _ _ _ c.requires _ _ _ _ c.loop-node.invariant c.loop-node-test.true
-    (λ e. omega (arith, c.if-index-node.false, e)) c.below-node-in-loop-node.ensures
+    (λ e. omega (arith, c.if-numbers-node.false, e)) c.below-node-in-loop-node.ensures

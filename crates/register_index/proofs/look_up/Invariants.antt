@@ -3,7 +3,7 @@ use Rattle.register_index.proofs.Index.{left, Seeks}
 use Rattle.register_index.proofs.look_up.Given as goal
 
 abbrev pub invariant-loop-node : goal.invariant-loop-node
-invariant-loop-node l = Seeks l.index.numbers.now l.index.n l.index.links.now l.number l.rest l.node
+invariant-loop-node l = Seeks l.numbers l.n l.links l.number l.rest l.node
 
 abbrev pub decreases-loop-node : goal.decreases-loop-node
-decreases-loop-node l = left l.index.n l.node
+decreases-loop-node l = left l.n l.node

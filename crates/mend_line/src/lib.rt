@@ -7,9 +7,7 @@
 // other rooms stay parameters of their own: some are written while others are read.
 #![tactic(auto)]
 
-ghost use Rattle.std.specs.Prelude.{cond, ◌≡◌, ◌≤◌, ◌<◌, ◌+◌, eqb, length};
-ghost use Rattle.game.specs.Questions.{FirstBelow};
-ghost use Rattle.lists.specs.Refuses.{Same};
+ghost use Rattle.std.specs.Prelude.{cond, ◌≡◌, ◌≤◌, ◌+◌, eqb, length};
 ghost use Rattle.register_index.specs.Indexed.{Indexed};
 ghost use Rattle.register_index.specs.IndexAt.{IsIndexed, SameParts};
 ghost use Rattle.pair_words.specs.Words.{objectors_in, targets_in};
@@ -42,23 +40,6 @@ pub fn settle_statement(index: &mut NumberIndex, marks: &mut [u8], statement: St
     0
 }
 
-// The first of the m objections kept that is the one of y against x, if one is. Never inlined: beside all else some processors
-// read the jumps of its loop slowly, and a text that repeats one objection over and over takes half as long again.
-#[inline(never)]
-fn kept_at(
-    objectors: &[u32],
-    targets: &[u32],
-    n: usize,
-    m: usize,
-    y: usize,
-    x: usize,
-) -> Option<usize>
-    requires { Entered n m objectors.now targets.now × (m ≤ 4096) × (y < n) × (x < n) }
-    ensures { FirstBelow (Same (objectors_in objectors.now) (targets_in objectors.now) y x) m result }
-{
-    pair_repeat::pair_at(objectors, targets, n, m, y, x)
-}
-
 // Settles an objection after n statements and m objections kept: 7 or 9 marks a listed target unread, 8, or kept.
 pub fn settle_objection(
     numbers: &[u32],
@@ -84,7 +65,8 @@ pub fn settle_objection(
         marks[x] = 1; // whether its objector stands, nobody can tell
         return 7;
     };
-    if kept_at(objectors, targets, n, m, y, x).is_some() {
+    // Not `is_some`: of that LLVM makes a slower loop, and a text that repeats an objection takes half as long again.
+    if pair_repeat::pair_at(objectors, targets, n, m, y, x).unwrap_or(m) < m {
         return 8;
     }
     if m >= 4096 {

@@ -44,7 +44,9 @@ fn write_mended(
     Ok(size as u32)
 }
 
-// Mends a text.
+// Mends a text. Never inlined: so the search for an equal objection is laid out alike in the program and in the libraries, and
+// takes as long wherever a linker puts it (docs/DESIGN-PASS.md, Speed).
+#[inline(never)]
 pub fn text_mend(
     text: &[u8],
     room: &mut [u8],

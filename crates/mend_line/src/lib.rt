@@ -65,7 +65,7 @@ pub fn settle_objection(
         marks[x] = 1; // whether its objector stands, nobody can tell
         return 7;
     };
-    // Not `is_some`: of that LLVM makes a slower loop, and a text that repeats an objection takes half as long again.
+    // Not `is_some`: the loop that LLVM makes of that takes half as long again at every second place where a linker may put it.
     if pair_repeat::pair_at(objectors, targets, n, m, y, x).unwrap_or(m) < m {
         return 8;
     }

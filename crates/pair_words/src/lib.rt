@@ -50,16 +50,18 @@ fn high_in(word: u32) -> usize
     (word / 4096) as usize
 }
 
-// The latest earlier entry by the objector of this one, counted from 1, or 0.
+// The latest earlier entry by the objector of this one, counted from 1, or 0. Entries from 3,072 on are asked for first: so
+// the search for an equal objection while a text is mended has no jump across two lines of 32 bytes, which some processors read
+// slowly (docs/DESIGN-PASS.md, Speed).
 #[tactic(auto, unfolding(crate::specs::Words::link_by, crate::specs::Words::low, crate::specs::Words::high))]
 pub fn link_by(links: &[u32], e: usize) -> usize
     requires { (e < 4096) × (3072 ≤ length links.now) }
     ensures { result ≡ link_by links.now e }
 {
-    if e < 3072 {
-        return (links[e] % 4096) as usize;
+    if e >= 3072 {
+        return high_in(links[e - 3072]);
     }
-    high_in(links[e - 3072])
+    (links[e] % 4096) as usize
 }
 
 // The latest entry against a target, counted from 1, or 0. It and the one below are not one function: each is named by its own
